@@ -1,0 +1,68 @@
+-- Bounds: `natAbs z ≤ b` says −b ≤ z ≤ b, in ℕ, where `omega` reads it. How bounds go through sums, products and stores,
+-- and back to the order of ℤ. Bounds of whole expressions by computation: Fitting.antt. No assumptions.
+use mathlib.Core.Path.{_≡_, refl, sym, ap, _∙_}
+use mathlib.Core.List.{List, [], _∷_}
+use Prim.Native.Nat.{ℕ, zero, suc, _+_, _*_, _^_, _≤_, _<_}
+use native.Mathlib.Omega.{arith}
+use native.Mathlib.Nat.{mul-le-mul, lt-of-le-of-lt}
+use lib.IntN.{ℤ, pos, negsuc, negℤ, natAbs, _+ℤ_, _-ℤ_, _*ℤ_}
+use lib.Signed.{mag, _≤ℤ_}
+use mir.Syntax.{w64}
+use mir.Val.{SFits}
+use Rattle.numeric.proofs.Difference.{up, dn}
+use Rattle.numeric.proofs.Expression.{v, #, _⊕_, ⊝, at-most, at-most-of, rep}
+
+pub abs-parts : (z : ℤ) → natAbs z ≡ up z + dn z
+abs-parts (pos n) = omega arith
+abs-parts (negsuc n) = omega arith
+
+pub mag-abs : (z : ℤ) → mag z ≤ natAbs z
+mag-abs (pos n) = omega arith
+mag-abs (negsuc n) = omega arith
+
+pub fits-abs : (z : ℤ) → natAbs z < 2 ^ 63 → SFits w64 z
+fits-abs z h = record { sfits = lt-of-le-of-lt (mag-abs z) h }
+
+pub abs-neg : (z : ℤ) → natAbs (negℤ z) ≡ natAbs z
+abs-neg (pos zero) = refl
+abs-neg (pos (suc n)) = refl
+abs-neg (negsuc n) = refl
+
+pub abs-mul : (a b : ℤ) → natAbs (a *ℤ b) ≡ natAbs a * natAbs b
+abs-mul (pos a) (pos b) = refl
+abs-mul (pos a) (negsuc b) = abs-neg (pos (a * suc b))
+abs-mul (negsuc a) (pos b) = abs-neg (pos (suc a * b))
+abs-mul (negsuc a) (negsuc b) = refl
+
+pub abs-add : (a b : ℤ) → natAbs (a +ℤ b) ≤ natAbs a + natAbs b
+abs-add a b = least (a +ℤ b) (up a + up b) (dn a + dn b) (omega (arith, rep (a ∷ b ∷ []) (v 0 ⊕ v 1) .is)) (omega (arith, abs-parts a, abs-parts b))
+  where
+    least : (z : ℤ) (p n : ℕ) → up z + n ≡ p + dn z → {m : ℕ} → p + n ≤ m → natAbs z ≤ m
+    least (pos k) p n e h = omega arith
+    least (negsuc k) p n e h = omega arith
+
+pub abs-sub : (a b : ℤ) → natAbs (a -ℤ b) ≤ natAbs a + natAbs b
+abs-sub a b = omega (arith, abs-add a (negℤ b), abs-neg b)
+
+-- A product under bounds.
+pub abs-mul-le : (a b : ℤ) {x y : ℕ} → natAbs a ≤ x → natAbs b ≤ y → natAbs (a *ℤ b) ≤ x * y
+abs-mul-le a b h k = rw abs-mul (mul-le-mul h k)
+
+abs-parts-le : (z : ℤ) (b : ℕ) → up z ≤ b + dn z → dn z ≤ b + up z → natAbs z ≤ b
+abs-parts-le (pos n) b h k = omega arith
+abs-parts-le (negsuc n) b h k = omega arith
+
+pub abs-from : (z : ℤ) (b : ℕ) → negℤ (pos b) ≤ℤ z → z ≤ℤ pos b → natAbs z ≤ b
+abs-from z b l h =
+    abs-parts-le z b (omega (arith, at-most-of (z ∷ pos b ∷ []) (v 0) (v 1) h)) (omega (arith, at-most-of (z ∷ pos b ∷ []) (⊝ (v 1)) (v 0) l))
+
+pub abs-le : (z : ℤ) (b : ℕ) → natAbs z ≤ b → z ≤ℤ pos b
+abs-le z b h = at-most (z ∷ pos b ∷ []) (v 0) (v 1) (omega (arith, abs-parts z))
+
+pub abs-ge : (z : ℤ) (b : ℕ) → natAbs z ≤ b → negℤ (pos b) ≤ℤ z
+abs-ge z b h = at-most (z ∷ pos b ∷ []) (⊝ (v 1)) (v 0) (omega (arith, abs-parts z))
+
+-- A number from 0 to b.
+pub abs-of-nonneg : (z : ℤ) (b : ℕ) → pos 0 ≤ℤ z → z ≤ℤ pos b → natAbs z ≤ b
+abs-of-nonneg z b l h =
+    abs-parts-le z b (omega (arith, at-most-of (z ∷ pos b ∷ []) (v 0) (v 1) h)) (omega (arith, at-most-of (z ∷ []) (# (pos 0)) (v 0) l))

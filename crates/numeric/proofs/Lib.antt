@@ -1,0 +1,15 @@
+-- Laws by subject: differences and expressions of integers, the ring normaliser, bounds, quotients, comparisons, what
+-- fits 64 bits, machine expressions, tables, filling loops, sums, checks.
+pub mod Difference
+pub mod Expression
+pub mod RingLaws
+pub mod Ring
+pub mod Bounds
+pub mod Quotient
+pub mod Comparison
+pub mod Fitting
+pub mod Machine
+pub mod TableLaws
+pub mod Filling
+pub mod SumLaws
+pub mod CheckLaws

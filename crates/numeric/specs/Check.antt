@@ -1,0 +1,21 @@
+-- Checks: a test of every number below n, and the number of the first check that holds, which is what a call refuses with.
+-- Laws: proofs/CheckLaws.antt. No assumptions.
+use Prim.Native.Nat.{ℕ, zero, suc}
+use mathlib.Core.Bool.{Bool, true, false, _&&_}
+use mathlib.Core.List.{List, [], _∷_}
+
+-- Every number below n passes the test p.
+unfoldable pub every : ℕ → (ℕ → Bool) → Bool
+every zero p = true
+every (suc n) p = every n p && p n
+
+infix 68 _when_
+
+-- A check: the number that a call refuses with when the test holds.
+pub data Check : Type 0 where
+  _when_ : ℕ → Bool → Check
+
+-- The number of the first check of the list that holds, 0 where none does.
+unfoldable pub firstHolding : List Check → ℕ
+firstHolding [] = 0
+firstHolding (number when holds ∷ checks) = elim holds [ true ↦ number | false ↦ firstHolding checks ]

@@ -1,0 +1,4 @@
+pub mod Table
+pub mod Check
+pub mod Sum
+pub mod Rounding
