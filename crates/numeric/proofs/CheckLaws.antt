@@ -1,14 +1,16 @@
--- Laws of `every`, as the invariant of a checking loop wants them (start, a turn, both exits) and as its users do, and of
--- `firstHolding`. No assumptions.
+-- Laws of `every` and `allOf`, as the invariant of a checking loop wants them (start, a turn, both exits), of `every`
+-- as its users do, and of `firstHolding`. No assumptions.
 use Prim.Native.Nat.{ℕ, zero, suc, _<_, _≤_, _+_}
-use mathlib.Core.Bool.{Bool, true, false, _&&_}
-use mathlib.Core.List.{List, _∷_}
+use mathlib.Core.Bool.{Bool, true, false, _&&_, and-assoc}
+use mathlib.Core.List.{List, [], _∷_, _++_}
 use mathlib.Core.Path.{_≡_, refl, ap, ap₂, _∙_}
 use native.Mathlib.Numerals.{add-one}
 use native.Mathlib.Nat.{lt-suc-self}
 use native.Mathlib.Decide.{decLt}
 use native.Mathlib.Omega.{arith}
-use Rattle.numeric.specs.Check.{every, Check, _when_, firstHolding}
+use lib.ListN.{length, getD, take}
+use lib.Seq.{take-suc, take-all}
+use Rattle.numeric.specs.Check.{every, allOf, Check, _when_, firstHolding}
 
 pub and-left : (a b : Bool) → a && b ≡ true → a ≡ true
 and-left true b e = refl
@@ -53,6 +55,47 @@ pub every-all : (n : ℕ) (p : ℕ → Bool) → ((i : ℕ) → i < n → p i �
 unfolding every
 every-all zero p h = refl
 every-all (suc n) p h = ap₂ _&&_ (every-all n p (λ i l. h i (omega arith))) (h n (lt-suc-self n))
+
+-- Tests that agree below n give the same answer.
+pub every-eq : (n : ℕ) (p q : ℕ → Bool) → ((i : ℕ) → i < n → p i ≡ q i) → every n p ≡ every n q
+unfolding every
+every-eq zero p q h = refl
+every-eq (suc n) p q h = ap₂ _&&_ (every-eq n p q (λ i l. h i (omega arith))) (h n (lt-suc-self n))
+
+-- A loop over a list has passed `take i xs`; `d` is what `getD` answers past the end.
+module _ {A : Type 0} (p : A → Bool) where
+  pub allOf-nil : allOf p [] ≡ true
+  unfolding allOf
+  allOf-nil = refl
+
+  allOf-append : (xs ys : List A) → allOf p (xs ++ ys) ≡ allOf p xs && allOf p ys
+  unfolding allOf
+  allOf-append [] ys = refl
+  allOf-append (x ∷ xs) ys = rw (allOf-append xs ys, and-assoc)
+
+  pub allOf-more : (xs : List A) (i : ℕ) (d : A) → i < length xs → allOf p (take i xs) ≡ true → p (getD xs i d) ≡ true
+      → allOf p (take (i + 1) xs) ≡ true
+  unfolding allOf
+  allOf-more xs i d h e q = rw (add-one, take-suc xs i d, allOf-append, e, q)
+
+  pub allOf-fails : (xs : List A) (i : ℕ) (d : A) → i < length xs → p (getD xs i d) ≡ false → allOf p xs ≡ false
+  unfolding allOf
+  allOf-fails [] i d h e = absurd (omega arith)
+  allOf-fails (x ∷ xs) zero d h e = rw e
+  allOf-fails (x ∷ xs) (suc i) d h e = rw (allOf-fails xs i d (omega arith) e, and-false)
+
+  pub allOf-done : (xs : List A) (i : ℕ) → length xs ≤ i → allOf p (take i xs) ≡ true → allOf p xs ≡ true
+  allOf-done xs i h e = rw take-all at e
+
+  pub allOf-at : (xs : List A) (i : ℕ) (d : A) → allOf p xs ≡ true → i < length xs → p (getD xs i d) ≡ true
+  unfolding allOf
+  allOf-at [] i d e h = absurd (omega arith)
+  allOf-at (x ∷ xs) zero d e h = and-left (p x) (allOf p xs) e
+  allOf-at (x ∷ xs) (suc i) d e h = allOf-at xs i d (and-right (p x) (allOf p xs) e) (omega arith)
+
+pub first-nil : firstHolding [] ≡ 0
+unfolding firstHolding
+first-nil = refl
 
 -- The first check holds: its number.
 pub first-holds : (number : ℕ) (holds : Bool) (checks : List Check) → holds ≡ true → firstHolding (number when holds ∷ checks) ≡ number

@@ -12,7 +12,6 @@ use Rattle.numeric.proofs.Difference.{up, dn, Rep, rep-self, rep-add, r
 
 infixl 6 _⊕_ _⊖_
 infixl 7 _⊗_
-
 pub data Operation : Type 0 where
   plus minus times : Operation
 

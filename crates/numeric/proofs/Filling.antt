@@ -1,6 +1,6 @@
 -- Loops that fill a list: `Filled n k f l` is the invariant of a loop that stores f k at each k in turn into a list of n
--- elements, with a law for its start, a turn and its end; a loop that stores a run of elements, from one place on, is
--- `run`, and `fill-run` takes a filling past it. No assumptions.
+-- elements, with a law for its start, a turn and its end; then the same for `run`, and `fill-run`, which takes a filling past
+-- a run. No assumptions.
 use Prim.Native.Nat.{ℕ, zero, suc, _<_, _≤_, _+_}
 use mathlib.Core.List.{List}
 use mathlib.Core.Path.{_≡_, refl, sym, _∙_}
@@ -9,7 +9,7 @@ use lib.Seq.{take-suc-set, take-all}
 use native.Mathlib.Numerals.{add-one}
 use native.Mathlib.Omega.{arith}
 use native.Mathlib.Nat.{add-zero, add-suc, lt-suc-self}
-use Rattle.numeric.specs.Table.{tab}
+use Rattle.numeric.specs.Table.{tab, run}
 
 module _ {A : Type 0} where
   tab-more : (f : ℕ → A) (l : List A) (k : ℕ) (v : A) → k < length l → take k l ≡ tab k f → v ≡ f k → take (k + 1) (set l k v) ≡ tab (k + 1) f
@@ -35,11 +35,6 @@ module _ {A : Type 0} where
       let e : k ≡ n = omega arith in
       let full : take n l ≡ tab n f = rw e at (i .done) in
       sym (take-all n l (omega (arith, i .long))) ∙ full
-
-  -- The list after f 0 to f (n − 1) were stored at its places from b on.
-  unfoldable pub run : List A → ℕ → ℕ → (ℕ → A) → List A
-  run l b zero f = l
-  run l b (suc n) f = set (run l b n f) (b + n) (f n)
 
   pub run-none : (l : List A) (b : ℕ) (f : ℕ → A) → l ≡ run l b 0 f
   unfolding run

@@ -13,7 +13,6 @@ use Rattle.numeric.proofs.Expression.{Ex, v, #, op, Operation, plus, mi
 use Rattle.numeric.proofs.Bounds.{fits-abs, abs-add, abs-sub, abs-neg, abs-mul-le}
 
 infixr 67 _&_
-
 -- Each number of the first list is from −b to b, for the b at its place in the second.
 pub data Bounded : List ℤ → List ℕ → Type 0 where
   all : Bounded [] []

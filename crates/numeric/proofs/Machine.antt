@@ -6,19 +6,29 @@
 use mathlib.Core.Path.{_≡_, refl, sym, ap, ap₂, _∙_, subst}
 use mathlib.Core.Bool.{Bool, true, false, _&&_}
 use mathlib.Core.List.{List}
-use Prim.Native.Nat.{ℕ, _^_, _≤_}
+use Prim.Native.Nat.{ℕ, _^_, _<_}
 use lib.Dec.{T, ltb}
 use lib.ListN.{getD}
-use lib.IntN.{ℤ, pos, negℤ, natAbs, _-ℤ_, +ℤ-idl}
+use lib.IntN.{ℤ, pos, negℤ, _-ℤ_, +ℤ-idl}
+use lib.Signed.{mag}
 use mir.Syntax.{w64}
 use mir.Val.{SFits, toZ, ofZ}
 use mir.Facts.{toZ-ofZ}
+use borrow.Author.Needs.{sfits-of}
 use Rattle.numeric.proofs.Expression.{Ex, v, #, op, Operation, ⊝, apply, eval}
 use Rattle.numeric.proofs.Fitting.{Bounded, bound, fit}
 
 -- A signed number as the machine keeps it in a local and reads it back.
 abbrev pub kept : ℤ → ℤ
 kept z = toZ w64 (ofZ w64 z)
+
+-- A number that fits is kept: `mag z < 2 ^ 63` is what a read or a call gives of its value (`.given`, `.ok`).
+pub kept-is : (z : ℤ) → mag z < 2 ^ 63 → kept z ≡ z
+kept-is z h = toZ-ofZ (sfits-of h)
+
+-- A call's result of which its contract says what it is.
+pub result-is : {x : ℤ} (y : ℤ) → x ≡ y → mag x < 2 ^ 63 → kept x ≡ y
+result-is {x} y e h = kept-is x h ∙ e
 
 abbrev pub mach : List ℤ → Ex → ℤ
 mach env (v i) = kept (getD env i (pos 0))

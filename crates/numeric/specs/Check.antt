@@ -1,4 +1,4 @@
--- Checks: a test of every number below n, and the number of the first check that holds, which is what a call refuses with.
+-- Checks: a test of every number below n or of every element of a list, and the number of the first check that holds, which is what a call refuses with.
 -- Laws: proofs/CheckLaws.antt. No assumptions.
 use Prim.Native.Nat.{ℕ, zero, suc}
 use mathlib.Core.Bool.{Bool, true, false, _&&_}
@@ -9,8 +9,12 @@ unfoldable pub every : ℕ → (ℕ → Bool) → Bool
 every zero p = true
 every (suc n) p = every n p && p n
 
-infix 68 _when_
+-- Every element of the list passes the test p.
+unfoldable pub allOf : {A : Type 0} → (A → Bool) → List A → Bool
+allOf p [] = true
+allOf p (x ∷ xs) = p x && allOf p xs
 
+infix 68 _when_
 -- A check: the number that a call refuses with when the test holds.
 pub data Check : Type 0 where
   _when_ : ℕ → Bool → Check

@@ -1,0 +1,8 @@
+pub mod Ranges
+pub mod Lines
+pub mod Coded
+pub mod RowEntries
+pub mod RowArithmetic
+pub mod MatrixLoop
+pub mod CheckThree
+pub mod EntryBounds

@@ -1,0 +1,6 @@
+pub mod Cases
+pub mod Contents
+pub mod Exact
+pub mod Balance
+pub mod Batches
+pub mod SetNumber

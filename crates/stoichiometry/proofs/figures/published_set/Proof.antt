@@ -1,0 +1,63 @@
+-- `figures::published_set` meets its contract: it is the definition's record, with what `fractions_of` ensures put in.
+-- No assumptions.
+use borrow.Author.Needs.{needs}
+use Rattle.stoichiometry.proofs.figures.published_set.Statement.{statement}
+use Rattle.stoichiometry.proofs.figures.published_set.Tie as tie
+
+fractions-of-requires : tie.Need-fractions-of-requires
+fractions-of-requires c κs = search needs
+
+fractions-of-requires-2 : tie.Need-fractions-of-requires-2
+fractions-of-requires-2 c κs = search needs
+
+fractions-of-requires-3 : tie.Need-fractions-of-requires-3
+fractions-of-requires-3 c κs = search needs
+
+fractions-of-requires-4 : tie.Need-fractions-of-requires-4
+fractions-of-requires-4 c κs = search needs
+
+fractions-of-requires-5 : tie.Need-fractions-of-requires-5
+fractions-of-requires-5 c κs = search needs
+
+fractions-of-requires-6 : tie.Need-fractions-of-requires-6
+fractions-of-requires-6 c κs = search needs
+
+fractions-of-requires-7 : tie.Need-fractions-of-requires-7
+fractions-of-requires-7 c κs = search needs
+
+fractions-of-requires-8 : tie.Need-fractions-of-requires-8
+fractions-of-requires-8 c κs = search needs
+
+returns : tie.Need-returns
+returns c =
+    let at-xs = c .before in
+    let at-xalg = at-xs .before in
+    let at-xn2 = at-xalg .before in
+    let at-xn1 = at-xn2 .before in
+    let at-xh = at-xn1 .before in
+    let at-si = at-xh .before in
+    let at-ss = at-si .before in
+    rw (
+      at-ss .fractions-of .ensures,
+      at-si .fractions-of2 .ensures,
+      at-xh .fractions-of3 .ensures,
+      at-xn1 .fractions-of4 .ensures,
+      at-xn2 .fractions-of5 .ensures,
+      at-xalg .fractions-of6 .ensures,
+      at-xs .fractions-of7 .ensures,
+      c .fractions-of8 .ensures,
+    )
+
+pub published-set-spec : {M : Type 1} → statement M
+published-set-spec =
+    tie.close
+    (tie.spec
+    fractions-of-requires
+    fractions-of-requires-2
+    fractions-of-requires-3
+    fractions-of-requires-4
+    fractions-of-requires-5
+    fractions-of-requires-6
+    fractions-of-requires-7
+    fractions-of-requires-8
+    returns)

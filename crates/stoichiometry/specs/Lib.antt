@@ -1,0 +1,4 @@
+pub mod Substances
+pub mod Parameters
+pub mod Rows
+pub mod Sets

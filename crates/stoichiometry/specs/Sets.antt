@@ -1,0 +1,74 @@
+-- What the calls on sets answer (scope, "Numbers a caller may get"): check 3, the number of a set, an accepted set, and the
+-- answer of `Set::published`. The answer of the rows: crate rows. No assumptions.
+use Prim.Native.Nat.{ℕ}
+use mathlib.Core.Bool.{Bool, true, not, _&&_, cond}
+use mathlib.Core.List.{List, [], _∷_}
+use mathlib.Core.Path.{_≡_}
+use lib.Dec.{eqb}
+use lib.IntN.{ℤ, pos}
+use lib.Signed.{leZ, ltZ}
+use Rattle.numeric.specs.Check.{every, firstHolding, _when_}
+use Rattle.stoichiometry.specs.declared.RateConstants.{RateConstants}
+use Rattle.stoichiometry.specs.declared.HalfSaturations.{HalfSaturations}
+use Rattle.stoichiometry.specs.declared.GrowthRates.{GrowthRates}
+use Rattle.stoichiometry.specs.declared.Set.{Set}
+use Rattle.stoichiometry.specs.declared.Published.{Published}
+use Rattle.stoichiometry.specs.Substances.{place, nh4, hpo4, o2, hco3}
+use Rattle.stoichiometry.specs.Parameters.{fractionsWrong, figuresWrong, constantsFit, fractions, publishedSet}
+use Rattle.stoichiometry.specs.Rows.{processes, Process, Asked, consumesO2, takesUpNothing, unasked, processAt, oxygenChange, rowEntry}
+
+-- A process at place p has what check 3 asks of it. An entry of 0 is no uptake.
+abbrev pub askedMet : Set → ℕ → Asked → Bool
+askedMet set p consumesO2 = ltZ (oxygenChange set (processAt set p)) (pos 0)
+askedMet set p takesUpNothing =
+    leZ (pos 0) (rowEntry set p (place nh4)) && leZ (pos 0) (rowEntry set p (place hpo4))
+    && leZ (pos 0) (rowEntry set p (place o2)) && leZ (pos 0) (rowEntry set p (place hco3))
+askedMet set p unasked = true
+
+-- Check 3: E of a process 1 to 10 or 13 is not below zero, or 14 or 15 takes up NH4, HPO4, O2 or HCO3.
+unfoldable pub rowsWrong : Set → Bool
+rowsWrong set = not (every processes (λ p. askedMet set p (processAt set p .asked)))
+
+-- The number of a set, 0 for none.
+unfoldable pub setNumber : Set → ℕ
+setNumber set = firstHolding (1 when fractionsWrong set ∷ 2 when figuresWrong set ∷ 3 when rowsWrong set ∷ [])
+
+-- No check of a set holds of it.
+abbrev pub Accepted : Set → Type 0
+Accepted set = setNumber set ≡ 0
+
+-- A set of zeros.
+abbrev pub zeroSet : Set
+zeroSet =
+    let none = fractions 0 0 0 0 0 in
+    let still : GrowthRates = record { growth = 0; respiration = 0 } in
+    record {
+      fractions = record { ss = none; si = none; xh = none; xn1 = none; xn2 = none; xalg = none; xs = none; xi = none };
+      yields = record { aerobic = 0; nitrate = 0; nitrite = 0; xn1 = 0; xn2 = 0; death = 0; hydrolysis = 0 };
+      inert = record { bacteria = 0; algae = 0 };
+      rates =
+          record {
+            aerobic = still;
+            anoxic = still;
+            xn1 = still;
+            xn2 = still;
+            algae = record { ammonium = 0; nitrate = 0; respiration = 0; death = 0 };
+            hydrolysis = 0;
+            adsorption = 0;
+            desorption = 0;
+          };
+      half =
+          record {
+            aerobic = record { ss = 0; o2 = 0; nitrogen = 0; phosphate = 0 };
+            anoxic = record { ss = 0; o2 = 0; no3 = 0; no2 = 0; phosphate = 0 };
+            xn1 = record { o2 = 0; nh4 = 0; phosphate = 0 };
+            xn2 = record { o2 = 0; no2 = 0; phosphate = 0 };
+            algae = record { o2 = 0; nitrogen = 0; nh4 = 0; phosphate = 0 };
+          };
+    }
+
+-- The published set with the caller's rate constants and half-saturations; 2 and zeros where one is outside its range.
+unfoldable pub publishedAnswer : RateConstants → HalfSaturations → Published
+publishedAnswer k h =
+    let n = firstHolding (2 when not (constantsFit k h) ∷ []) in
+    record { number = n; set = cond (eqb n 0) (publishedSet k h) zeroSet }
