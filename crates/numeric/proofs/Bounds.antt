@@ -52,6 +52,17 @@ abs-parts-le : (z : ℤ) (b : ℕ) → up z ≤ b + dn z → dn z ≤ b + up z �
 abs-parts-le (pos n) b h k = omega arith
 abs-parts-le (negsuc n) b h k = omega arith
 
+pub abs-zero : (z : ℤ) → natAbs z ≡ 0 → z ≡ pos 0
+abs-zero (pos n) e = ap pos e
+abs-zero (negsuc n) e = absurd (omega arith)
+
+-- A number between two that are from −b to b.
+pub abs-between : (x y z : ℤ) {b : ℕ} → natAbs x ≤ b → natAbs z ≤ b → x ≤ℤ y → y ≤ℤ z → natAbs y ≤ b
+abs-between x y z {b} h k l m =
+    abs-parts-le y b
+    (omega (arith, abs-parts z, at-most-of (y ∷ z ∷ []) (v 0) (v 1) m))
+    (omega (arith, abs-parts x, at-most-of (x ∷ y ∷ []) (v 0) (v 1) l))
+
 pub abs-from : (z : ℤ) (b : ℕ) → negℤ (pos b) ≤ℤ z → z ≤ℤ pos b → natAbs z ≤ b
 abs-from z b l h =
     abs-parts-le z b (omega (arith, at-most-of (z ∷ pos b ∷ []) (v 0) (v 1) h)) (omega (arith, at-most-of (z ∷ pos b ∷ []) (⊝ (v 1)) (v 0) l))

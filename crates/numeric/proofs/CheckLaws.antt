@@ -1,15 +1,17 @@
 -- Laws of `every` and `allOf`, as the invariant of a checking loop wants them (start, a turn, both exits), of `every`
 -- as its users do, and of `firstHolding`. No assumptions.
-use Prim.Native.Nat.{ℕ, zero, suc, _<_, _≤_, _+_}
-use mathlib.Core.Bool.{Bool, true, false, _&&_, and-assoc}
+use Prim.Native.Nat.{ℕ, zero, suc, _<_, _≤_, _+_, _*_, _-_, _/_}
+use mathlib.Core.Bool.{Bool, true, false, _&&_, and-assoc, and-true, cond}
 use mathlib.Core.List.{List, [], _∷_, _++_}
-use mathlib.Core.Path.{_≡_, refl, ap, ap₂, _∙_}
+use mathlib.Core.Path.{_≡_, refl, sym, ap, ap₂, _∙_}
 use native.Mathlib.Numerals.{add-one}
-use native.Mathlib.Nat.{lt-suc-self}
+use native.Mathlib.Nat.{lt-suc-self, le-refl, add-zero, add-suc, zero-mul, suc-mul, mul-le-mul, div-lt-iff-lt-mul, le-div-iff-mul-le}
 use native.Mathlib.Decide.{decLt}
 use native.Mathlib.Omega.{arith}
+use lib.Dec.{leb, ltb}
 use lib.ListN.{length, getD, take}
 use lib.Seq.{take-suc, take-all}
+use borrow.Author.Tests.{leb-true, ltb-true, lt-ltb, le-ltb}
 use Rattle.numeric.specs.Check.{every, allOf, Check, _when_, firstHolding}
 
 pub and-left : (a b : Bool) → a && b ≡ true → a ≡ true
@@ -23,6 +25,11 @@ and-right false b e = cc
 pub and-false : (a : Bool) → a && false ≡ false
 and-false true = refl
 and-false false = refl
+
+-- A number is from low to high, both included.
+pub leb-within : (low x high : ℕ) → leb low x && leb x high ≡ true → (low ≤ x) × (x ≤ high)
+leb-within low x high e =
+    (leb-true low x (and-left (leb low x) (leb x high) e), leb-true x high (and-right (leb low x) (leb x high) e))
 
 pub every-none : (p : ℕ → Bool) → every 0 p ≡ true
 unfolding every
@@ -61,6 +68,37 @@ pub every-eq : (n : ℕ) (p q : ℕ → Bool) → ((i : ℕ) → i < n → p i �
 unfolding every
 every-eq zero p q h = refl
 every-eq (suc n) p q h = ap₂ _&&_ (every-eq n p q (λ i l. h i (omega arith))) (h n (lt-suc-self n))
+
+-- A test of the first m + n numbers is one of the first m and one of the next n.
+pub every-append : (m n : ℕ) (p : ℕ → Bool) → every (m + n) p ≡ every m p && every n (λ i. p (m + i))
+unfolding every
+every-append m zero p = rw (add-zero, and-true)
+every-append m (suc n) p = rw (add-suc, every-append m n p, and-assoc)
+
+-- A test of the first n * m numbers is one of n rows of m.
+pub every-rows : (n m : ℕ) (p : ℕ → Bool) → every (n * m) p ≡ every n (λ c. every m (λ s. p (c * m + s)))
+unfolding every
+every-rows zero m p = rw zero-mul
+every-rows (suc n) m p = rw (suc-mul, every-append (n * m) m p, every-rows n m p)
+
+-- Number k is in the first n rows of w, or beyond them.
+pub row-in : (w n k : ℕ) → 0 < w → k < n * w → ltb (k / w) n ≡ true
+row-in w n k h l = lt-ltb (k / w) n (div-lt-iff-lt-mul h .1 l)
+
+pub row-beyond : (w n k : ℕ) → 0 < w → n * w ≤ k → ltb (k / w) n ≡ false
+row-beyond w n k h l = le-ltb (k / w) n (le-div-iff-mul-le h .1 l)
+
+-- Of m rows of w numbers, the first n pass one test and the others another.
+pub every-split : (w n m : ℕ) (p q : ℕ → Bool) → 0 < w → n ≤ m
+    → every (m * w) (λ k. cond (ltb (k / w) n) (p k) (q k)) ≡ every (n * w) p && every (m * w - n * w) (λ i. q (n * w + i))
+every-split w n m p q h l =
+    let test : ℕ → Bool = λ k. cond (ltb (k / w) n) (p k) (q k) in
+    let rest = m * w - n * w in
+    let whole : m * w ≡ n * w + rest = omega (arith, mul-le-mul l (le-refl w)) in
+    ap (λ (k : ℕ). every k test) whole
+    ∙ every-append (n * w) rest test
+    ∙ ap₂ _&&_ (every-eq (n * w) test p (λ i k. rw (row-in w n i h k)))
+    (every-eq rest (λ i. test (n * w + i)) (λ i. q (n * w + i)) (λ i k. rw (row-beyond w n (n * w + i) h (omega arith))))
 
 -- A loop over a list has passed `take i xs`; `d` is what `getD` answers past the end.
 module _ {A : Type 0} (p : A → Bool) where
@@ -114,3 +152,21 @@ pub first-zero : (number : ℕ) (holds : Bool) (checks : List Check) → 0 < num
 unfolding firstHolding
 first-zero number true checks h e = let z : _≡_ {A = ℕ} 0 1 = omega arith in cc
 first-zero number false checks h e = refl
+
+-- The number of every check of the list is above 0; no check of the list holds.
+abbrev pub numbered : List Check → Bool
+numbered [] = true
+numbered (number when holds ∷ checks) = ltb 0 number && numbered checks
+
+abbrev pub NoneHolds : List Check → Type 0
+NoneHolds [] = Unit {0}
+NoneHolds (number when holds ∷ checks) = (holds ≡ false) × NoneHolds checks
+
+-- The number 0 says that no check holds, which `none-holds _ refl e .1 .0` tells of the second, and so on.
+pub none-holds : (checks : List Check) → numbered checks ≡ true → firstHolding checks ≡ 0 → NoneHolds checks
+none-holds [] n e = tt
+none-holds (number when holds ∷ checks) n e =
+    let above = ltb-true 0 number (and-left (ltb 0 number) (numbered checks) n) in
+    let fails = first-zero number holds checks above e in
+    let others = sym (first-fails number holds checks fails) ∙ e in
+    (fails, none-holds checks (and-right (ltb 0 number) (numbered checks) n) others)

@@ -1,0 +1,7 @@
+-- Laws by subject: one cell's totals, cells i to j, sound rivers, one call, a list of calls, and the result.
+pub mod CellTotals
+pub mod HeldLaws
+pub mod Soundness
+pub mod CallBalance
+pub mod ListBalance
+pub mod Demand3

@@ -1,0 +1,153 @@
+-- What every call keeps of a river: its number of cells, the places of its amounts, and that check 4 does not hold. A
+-- fresh river is sound, and so is a sound one with one amount changed within its bounds, or flowed or stepped where
+-- check 8 does not hold. No assumptions.
+use Prim.Native.Nat.{ℕ, _+_, _*_, _/_, _%_, _≤_, _<_}
+use mathlib.Core.Bool.{Bool, true, false, _&&_, cond}
+use mathlib.Core.List.{List}
+use mathlib.Core.Path.{_≡_, refl, ap₂, _∙_}
+use native.Mathlib.Decide.{ℕ-discrete}
+use native.Mathlib.Omega.{arith}
+use lib.Arith.{digits-div, digits-mod}
+use lib.Dec.{leb, ltb, eqb}
+use lib.ListN.{getD, set, length, length-set, length-replicate, getD-replicate}
+use lib.Seq.{getD-set-same, getD-set-other}
+use lib.IntN.{ℤ, pos, natAbs}
+use borrow.Author.Tests.{le-leb, lt-ltb, not-false}
+use Rattle.numeric.specs.Check.{every}
+use Rattle.numeric.proofs.CheckLaws.{and-left, and-right, leb-within, every-at, every-all}
+use Rattle.numeric.proofs.TableLaws.{tab-length, getD-tab}
+use Rattle.stoichiometry.specs.declared.Set.{Set}
+use Rattle.stoichiometry.specs.Substances.{substances}
+use Rattle.stoichiometry.specs.Rows.{processes}
+use Rattle.kinetics.specs.declared.Conditions.{Conditions}
+use Rattle.river.specs.declared.River.{River}
+use Rattle.river.specs.Rivers.{mostCells, lowestAt, highestAt, amountFits, amountsFit, carriesFit, cellsFit, riverWrong, zeroRiver}
+use Rattle.river.specs.Load.{withAmount}
+use Rattle.river.specs.Flow.{movedOf}
+use Rattle.step.specs.Steps.{newCarry, steppedAmounts, steppedCarries, stepped}
+
+-- A river of n cells with places for the amounts of all cells, of which check 4 does not hold.
+pub record Sound (n : ℕ) (r : River) : Type 0 where
+  pub cells : r .cells ≡ n
+  pub long : length (r .amounts) ≡ mostCells * substances
+  pub right : riverWrong r ≡ false
+
+-- The parts of check 4.
+all-fit : (r : River) → riverWrong r ≡ false
+    → (cellsFit (r .cells) ≡ true) × (amountsFit (r .cells) (r .amounts) ≡ true)
+    × (carriesFit (r .cells) (r .carries) ≡ true)
+unfolding riverWrong
+all-fit r e =
+    let cells = cellsFit (r .cells) in
+    let amounts = amountsFit (r .cells) (r .amounts) in
+    let carries = carriesFit (r .cells) (r .carries) in
+    let all = not-false (cells && amounts && carries) e in
+    let both = and-left (cells && amounts) carries all in
+    (and-left cells amounts both, and-right cells amounts both, and-right (cells && amounts) carries all)
+
+right-of : (r : River) → cellsFit (r .cells) ≡ true → amountsFit (r .cells) (r .amounts) ≡ true
+    → carriesFit (r .cells) (r .carries) ≡ true → riverWrong r ≡ false
+unfolding riverWrong
+right-of r e f g = rw (e, f, g)
+
+-- It is of 1 to 8 cells.
+pub right-cells : (r : River) → riverWrong r ≡ false → (1 ≤ r .cells) × (r .cells ≤ mostCells)
+unfolding cellsFit
+right-cells r e = leb-within 1 (r .cells) mostCells (all-fit r e .0)
+
+pub sound-cells : (n : ℕ) (r : River) → Sound n r → (1 ≤ n) × (n ≤ mostCells)
+sound-cells n r s = omega (arith, s .cells, right-cells r (s .right))
+
+-- With other amounts and carries that fit it is sound again.
+pub sound-again : (n : ℕ) (r : River) → Sound n r → (amounts : List ℤ) (carries : List ℕ)
+    → length amounts ≡ mostCells * substances → amountsFit (r .cells) amounts ≡ true
+    → carriesFit (r .cells) carries ≡ true
+    → Sound n (record { cells = r .cells; amounts = amounts; carries = carries })
+sound-again n r s amounts carries long e f =
+    record { cells = s .cells; long = long; right = right-of _ (all-fit r (s .right) .0) e f }
+
+pub sound-carries : (n : ℕ) (r : River) → Sound n r → carriesFit (r .cells) (r .carries) ≡ true
+sound-carries n r s = all-fit r (s .right) .2
+
+-- An amount at place k fits a river of n cells.
+abbrev fitsAt : ℕ → ℕ → ℤ → Bool
+fitsAt n k x = cond (ltb (k / substances) n) (amountFits (k % substances) x) (eqb (natAbs x) 0)
+
+set-at : (n : ℕ) (a : List ℤ) (k : ℕ) (x : ℤ) → k < length a → fitsAt n k x ≡ true → (i : ℕ)
+    → fitsAt n i (getD a i (pos 0)) ≡ true → Dec (i ≡ k) → fitsAt n i (getD (set a k x) i (pos 0)) ≡ true
+set-at n a k x l h i old (yes e) = rw (e, getD-set-same a k x (pos 0) l) h
+set-at n a k x l h i old (no d) = rw (getD-set-other a k i x (pos 0) d) old
+
+-- One amount changed to one that fits.
+set-fits : (n : ℕ) (a : List ℤ) (k : ℕ) (x : ℤ) → k < length a → fitsAt n k x ≡ true → amountsFit n a ≡ true
+    → amountsFit n (set a k x) ≡ true
+unfolding amountsFit
+set-fits n a k x l h e =
+    every-all (mostCells * substances) _
+    (λ i j. set-at n a k x l h i (every-at (mostCells * substances) i _ e j) (ℕ-discrete i k))
+
+-- An amount changed, as check 8 lets pass.
+pub sound-amount : (n : ℕ) (r : River) → Sound n r → (c s : ℕ) (x : ℤ) → c < n → s < substances
+    → amountFits s x ≡ true → Sound n (withAmount r c s x)
+sound-amount n r sound c s x h l e =
+    let most = sound-cells n r sound .1 in
+    sound-again n r sound (set (r .amounts) (c * substances + s) x) (r .carries)
+    (length-set (r .amounts) (c * substances + s) x ∙ sound .long)
+    (set-fits (r .cells) (r .amounts) (c * substances + s) x (omega (arith, sound .long))
+    (rw (digits-div c l, digits-mod c l, lt-ltb c (r .cells) (omega (arith, sound .cells))) e)
+    (all-fit r (sound .right) .1))
+    (sound-carries n r sound)
+
+-- A carry after a step is a remainder, and 0 beyond the last cell.
+carry-case : (x : ℕ) (b : Bool) → cond b (leb (cond b (x % 1000000) 0) 999999) (eqb (cond b (x % 1000000) 0) 0) ≡ true
+carry-case x true = le-leb (x % 1000000) 999999 (omega arith)
+carry-case x false = refl
+
+module _ (set : Set) (given : Conditions) where
+  stepped-carries-fit : (r : River) → carriesFit (r .cells) (steppedCarries set given r) ≡ true
+  unfolding carriesFit steppedCarries newCarry
+  stepped-carries-fit r =
+      every-all (mostCells * processes) _
+      (λ k l. rw (getD-tab {A = ℕ} (mostCells * processes) _ k 0 l) (carry-case _ (ltb (k / processes) (r .cells))))
+
+  -- A step that check 8 lets pass.
+  pub sound-step : (n : ℕ) (r : River) → Sound n r → amountsFit (r .cells) (steppedAmounts set given r) ≡ true
+      → Sound n (stepped set given r)
+  unfolding steppedAmounts
+  sound-step n r s e =
+      sound-again n r s (steppedAmounts set given r) (steppedCarries set given r)
+      (tab-length (mostCells * substances) _) e (stepped-carries-fit r)
+
+-- A flow that check 8 lets pass.
+pub sound-flow : (n : ℕ) (r : River) → Sound n r → (left : List ℤ)
+    → amountsFit (r .cells) (movedOf (r .cells) (r .amounts) left) ≡ true
+    → Sound n (record { cells = r .cells; amounts = movedOf (r .cells) (r .amounts) left; carries = r .carries })
+unfolding movedOf
+sound-flow n r s left e =
+    sound-again n r s (movedOf (r .cells) (r .amounts) left) (r .carries) (tab-length (mostCells * substances) _) e
+    (sound-carries n r s)
+
+-- An amount of 0 is within the bounds of every substance.
+zero-fits : every substances (λ s. amountFits s (pos 0)) ≡ true
+unfolding every amountFits lowestAt highestAt
+zero-fits = refl
+
+same : {A : Type 0} (b : Bool) (x : A) → cond b x x ≡ x
+same true x = refl
+same false x = refl
+
+-- A fresh river is sound.
+pub sound-zero : (n : ℕ) → 1 ≤ n → n ≤ mostCells → Sound n (zeroRiver n)
+unfolding cellsFit amountsFit carriesFit
+sound-zero n h l =
+    record {
+      cells = refl;
+      long = length-replicate (mostCells * substances) (pos 0);
+      right =
+          right-of (zeroRiver n) (ap₂ _&&_ (le-leb 1 n h) (le-leb n mostCells l))
+          (every-all (mostCells * substances) _
+          (λ k j. let fits = every-at substances (k % substances) _ zero-fits (omega arith) in
+          rw (getD-replicate (mostCells * substances) k (pos 0) (pos 0) j, fits) (same (ltb (k / substances) n) true)))
+          (every-all (mostCells * processes) _
+          (λ k j. rw (getD-replicate {A = ℕ} (mostCells * processes) k 0 0 j) (same (ltb (k / processes) n) true)));
+    }

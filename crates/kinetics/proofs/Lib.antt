@@ -1,0 +1,3 @@
+pub mod FactorLaws
+pub mod RateBounds
+pub mod Uptake

@@ -1,0 +1,32 @@
+-- `River::fresh` meets its contract: whether the number of cells fits decides the number, and with it the cells.
+-- No assumptions.
+use mathlib.Core.Path.{sym, _∙_}
+use borrow.Author.Needs.{needs}
+use Rattle.numeric.specs.Check.{firstHolding}
+use Rattle.river.specs.Rivers.{freshAnswer}
+use Rattle.river.proofs.River.fresh.Statement.{statement}
+use Rattle.river.proofs.River.fresh.Tie as tie
+
+cells-fit-requires : tie.Need-cells-fit-requires
+cells-fit-requires c κs = search needs
+
+zero-river-requires : tie.Need-zero-river-requires
+zero-river-requires c κs = search needs
+
+zero-river-requires-2 : tie.Need-zero-river-requires-2
+zero-river-requires-2 c κs = search needs
+
+-- Accepted.
+returns : tie.Need-returns
+unfolding freshAnswer firstHolding
+returns c = rw (sym (c .before .before .cells-fit .ensures) ∙ c .before .if1 .taken, c .zero-river .ensures)
+
+-- Refused by 4.
+returns-2 : tie.Need-returns-2
+unfolding freshAnswer firstHolding
+returns-2 c = rw (sym (c .before .before .cells-fit .ensures) ∙ c .before .if1 .left, c .zero-river2 .ensures)
+
+pub fresh-spec : {M : Type 1} → statement M
+fresh-spec =
+    tie.close
+    (tie.spec cells-fit-requires zero-river-requires zero-river-requires-2 returns returns-2)

@@ -1,0 +1,25 @@
+-- `amounts_in_bounds` meets its contract: more than 8 cells are taken for 8. No assumptions.
+use mathlib.Core.Path.{sym, _∙_}
+use native.Mathlib.Omega.{arith}
+use borrow.Author.Needs.{needs}
+use Rattle.river.proofs.Rivers.{amounts-beyond}
+use Rattle.river.proofs.amounts_in_bounds.Statement.{statement}
+use Rattle.river.proofs.amounts_in_bounds.Tie as tie
+
+amounts-fit-requires : tie.Need-amounts-fit-requires
+amounts-fit-requires c κs = search needs
+
+amounts-fit-requires-2 : tie.Need-amounts-fit-requires-2
+amounts-fit-requires-2 c κs = search needs
+
+returns : tie.Need-returns
+returns c = search needs
+
+returns-2 : tie.Need-returns-2
+returns-2 c =
+    let at-start = c .before .before in
+    c .amounts-fit2 .ensures ∙ sym (amounts-beyond (at-start .args .n) (at-start .args .amounts .now) (omega arith))
+
+pub amounts-in-bounds-spec : {M : Type 1} → statement M
+amounts-in-bounds-spec =
+    tie.close (tie.spec amounts-fit-requires amounts-fit-requires-2 returns returns-2)

@@ -1,0 +1,45 @@
+-- `check::amounts_fit` meets its contract: the definition by parts, what the two calls ensure. No assumptions.
+use mathlib.Core.Path.{sym, _∙_}
+use borrow.Author.Needs.{needs}
+use Rattle.river.proofs.Rivers.{amounts-parts}
+use Rattle.river.proofs.check.amounts_fit.Statement.{statement}
+use Rattle.river.proofs.check.amounts_fit.Tie as tie
+
+first-cells-fit-requires : tie.Need-first-cells-fit-requires
+first-cells-fit-requires c κs = search needs
+
+mul-no-amount-from : tie.Need-mul-no-amount-from
+mul-no-amount-from c = search needs
+
+no-amount-from-requires : tie.Need-no-amount-from-requires
+no-amount-from-requires c κs = search needs
+
+returns : tie.Need-returns
+returns c =
+    let at-cells = c .before .before in
+    let at-start = at-cells .before in
+    rw (
+      amounts-parts (at-start .args .n) (at-start .args .amounts .now) (at-start .pre),
+      sym (at-cells .first-cells-fit .ensures) ∙ c .before .if1 .taken,
+    )
+    (c .no-amount-from .ensures)
+
+-- An amount of a cell does not fit.
+returns-2 : tie.Need-returns-2
+returns-2 c =
+    let at-cells = c .before in
+    let at-start = at-cells .before in
+    rw (
+      amounts-parts (at-start .args .n) (at-start .args .amounts .now) (at-start .pre),
+      sym (at-cells .first-cells-fit .ensures) ∙ c .if1 .left,
+    )
+
+pub amounts-fit-spec : {M : Type 1} → statement M
+amounts-fit-spec =
+    tie.close
+    (tie.spec
+    first-cells-fit-requires
+    mul-no-amount-from
+    no-amount-from-requires
+    returns
+    returns-2)

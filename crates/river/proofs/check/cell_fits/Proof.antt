@@ -1,0 +1,88 @@
+-- `check::cell_fits` meets its contract. The loop's invariant: the amounts passed fit. No assumptions.
+use Prim.Native.Nat.{ℕ, _≤_, _+_, _-_}
+use mathlib.Core.Bool.{true}
+use mathlib.Core.Path.{_≡_, sym, _∙_}
+use native.Mathlib.Omega.{arith}
+use borrow.Author.Needs.{sfits-of}
+use lib.IntN.{pos}
+use lib.ListN.{getD}
+use mir.Facts.{toZ-ofZ}
+use Rattle.numeric.specs.Check.{every}
+use Rattle.numeric.proofs.CheckLaws.{every-none, every-more, every-fails}
+use Rattle.numeric.proofs.Machine.{kept}
+use Rattle.river.specs.Rivers.{amountFits}
+use Rattle.river.proofs.check.cell_fits.Statement.{statement}
+use Rattle.river.proofs.check.cell_fits.Tie as tie
+
+abbrev Inv-loop : tie.InvT-loop
+Inv-loop amounts start s₀ s =
+    (s ≤ 18) × (every s (λ (j : ℕ). amountFits j (getD amounts (start + j) (pos 0))) ≡ true)
+
+abbrev μ-loop : tie.MeasureT-loop
+μ-loop amounts start s₀ s = 18 - s
+
+loop-holds : tie.Need-loop-holds Inv-loop μ-loop
+loop-holds c = (omega arith, every-none _)
+
+add-amount-fits : tie.Need-add-amount-fits Inv-loop μ-loop
+add-amount-fits c = omega arith
+
+mul-amount-fits : tie.Need-mul-amount-fits Inv-loop μ-loop
+mul-amount-fits c = omega arith
+
+element-copy-out-amount-fits : tie.Need-element-copy-out-amount-fits Inv-loop μ-loop
+element-copy-out-amount-fits c = omega arith
+
+amount-fits-requires : tie.Need-amount-fits-requires Inv-loop μ-loop
+amount-fits-requires c κs = omega arith
+
+add-s : tie.Need-add-s Inv-loop μ-loop
+add-s c = omega arith
+
+loop-less : tie.Need-loop-less Inv-loop μ-loop
+loop-less c = omega arith
+
+-- The machine keeps the amount that it has read.
+kept-is : (c : tie.After-amount-fits-arg Inv-loop μ-loop) →
+    let at-loop = c .before .before in
+    let amount = getD (at-loop .before .args .amounts .now) (at-loop .before .args .start + at-loop .loop .s) (pos 0) in
+    kept amount ≡ amount
+kept-is c = toZ-ofZ (sfits-of (c .amount-fits-arg .given))
+
+loop-again : tie.Need-loop-again Inv-loop μ-loop
+loop-again c =
+    let at-call = c .before in
+    let at-read = at-call .before in
+    let at-loop = at-read .before .before in
+    let fits = sym (at-call .amount-fits .ensures) ∙ c .if1 .taken in
+    (omega arith, every-more _ _ (at-loop .loop .inv .1) (rw (kept-is at-read) at fits))
+
+-- An amount that does not fit.
+returns : tie.Need-returns Inv-loop μ-loop
+returns c =
+    let at-call = c .before in
+    let at-read = at-call .before in
+    let at-loop = at-read .before .before in
+    let fails = sym (at-call .amount-fits .ensures) ∙ c .if1 .left in
+    sym (every-fails _ (at-loop .loop .s) _ (omega arith) (rw (kept-is at-read) at fails))
+
+-- All fit.
+returns-2 : tie.Need-returns-2 Inv-loop μ-loop
+returns-2 c = let all : c .before .loop .s ≡ 18 = omega arith in sym (rw all at (c .before .loop .inv .1))
+
+pub cell-fits-spec : {M : Type 1} → statement M
+cell-fits-spec =
+    tie.close
+    (tie.spec
+    Inv-loop
+    μ-loop
+    loop-holds
+    add-amount-fits
+    mul-amount-fits
+    element-copy-out-amount-fits
+    amount-fits-requires
+    add-s
+    loop-less
+    loop-again
+    returns
+    returns-2)

@@ -1,0 +1,65 @@
+-- `check::first_cells_fit` meets its contract. The loop's invariant: the cells passed fit. No assumptions.
+use Prim.Native.Nat.{ℕ, _≤_, _-_}
+use mathlib.Core.Bool.{true}
+use mathlib.Core.Path.{_≡_, sym, _∙_}
+use native.Mathlib.Omega.{arith}
+use Rattle.numeric.specs.Check.{every}
+use Rattle.numeric.proofs.CheckLaws.{every-none, every-more, every-fails}
+use Rattle.river.specs.Rivers.{amountFits, amountAt}
+use Rattle.river.proofs.check.first_cells_fit.Statement.{statement}
+use Rattle.river.proofs.check.first_cells_fit.Tie as tie
+
+abbrev Inv-loop : tie.InvT-loop
+Inv-loop n amounts c₀ c =
+    (c ≤ n) × (every c (λ (d : ℕ). every 18 (λ (s : ℕ). amountFits s (amountAt amounts d s))) ≡ true)
+
+abbrev μ-loop : tie.MeasureT-loop
+μ-loop n amounts c₀ c = n - c
+
+loop-holds : tie.Need-loop-holds Inv-loop μ-loop
+loop-holds c = (omega arith, every-none _)
+
+mul-cell-fits : tie.Need-mul-cell-fits Inv-loop μ-loop
+mul-cell-fits c = omega arith
+
+cell-fits-requires : tie.Need-cell-fits-requires Inv-loop μ-loop
+cell-fits-requires c κs = omega arith
+
+add-c : tie.Need-add-c Inv-loop μ-loop
+add-c c = omega arith
+
+loop-less : tie.Need-loop-less Inv-loop μ-loop
+loop-less c = omega arith
+
+loop-again : tie.Need-loop-again Inv-loop μ-loop
+loop-again c =
+    let at-loop = c .before .before .before in
+    (omega arith, every-more _ _ (at-loop .loop .inv .1) (sym (c .before .cell-fits .ensures) ∙ c .if1 .taken))
+
+-- A cell that does not fit.
+returns : tie.Need-returns Inv-loop μ-loop
+returns c =
+    let at-loop = c .before .before .before in
+    sym (every-fails _ (at-loop .loop .c) _ (omega arith) (sym (c .before .cell-fits .ensures) ∙ c .if1 .left))
+
+-- All fit.
+returns-2 : tie.Need-returns-2 Inv-loop μ-loop
+returns-2 c =
+    let at-start = c .before .before in
+    let all : c .before .loop .c ≡ at-start .args .n = omega arith in
+    sym (rw all at (c .before .loop .inv .1))
+
+pub first-cells-fit-spec : {M : Type 1} → statement M
+first-cells-fit-spec =
+    tie.close
+    (tie.spec
+    Inv-loop
+    μ-loop
+    loop-holds
+    mul-cell-fits
+    cell-fits-requires
+    add-c
+    loop-less
+    loop-again
+    returns
+    returns-2)

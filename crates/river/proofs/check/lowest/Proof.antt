@@ -1,0 +1,25 @@
+-- `check::lowest` meets its contract: the least of a substance by its kind. No assumptions.
+use mathlib.Core.Path.{sym, _∙_}
+use borrow.Author.Needs.{needs}
+use Rattle.river.proofs.Bounds.{lowest-kind}
+use Rattle.river.proofs.check.lowest.Statement.{statement}
+use Rattle.river.proofs.check.lowest.Tie as tie
+
+is-net-change-requires : tie.Need-is-net-change-requires
+is-net-change-requires c κs = search needs
+
+sub-result : tie.Need-sub-result
+sub-result c = search needs
+
+returns : tie.Need-returns
+returns c =
+    let at-start = c .before .before in
+    rw (lowest-kind (at-start .args .s) (at-start .pre), sym (c .before .is-net-change .ensures) ∙ c .if1 .taken)
+
+returns-2 : tie.Need-returns-2
+returns-2 c =
+    let at-start = c .before .before in
+    rw (lowest-kind (at-start .args .s) (at-start .pre), sym (c .before .is-net-change .ensures) ∙ c .if1 .left)
+
+pub lowest-spec : {M : Type 1} → statement M
+lowest-spec = tie.close (tie.spec is-net-change-requires sub-result returns returns-2)

@@ -1,0 +1,58 @@
+-- One cell: its six totals under a set, and its letter (scope, "Flow, air, load, and the book" and "Probe frame, letter,
+-- record"). No assumptions.
+use Prim.Native.Nat.{ℕ, _-_}
+use mathlib.Core.Bool.{not, cond}
+use mathlib.Core.List.{List, [], _∷_}
+use lib.Dec.{ltb, eqb}
+use lib.IntN.{ℤ, pos}
+use Rattle.numeric.specs.Check.{firstHolding, _when_}
+use Rattle.numeric.specs.Sum.{sum}
+use Rattle.stoichiometry.specs.declared.Set.{Set}
+use Rattle.stoichiometry.specs.Substances.{substances, Total, carbon, hydrogen, oxygen, nitrogen, phosphorus, charge, contents, o2, nh4, place}
+use Rattle.stoichiometry.specs.Parameters.{fractionsWrong, figuresWrong}
+use Rattle.stoichiometry.specs.Sets.{rowsWrong}
+use Rattle.river.specs.declared.River.{River}
+use Rattle.river.specs.declared.Totals.{Totals}
+use Rattle.river.specs.declared.Letter.{Letter}
+use Rattle.river.specs.Rivers.{amountAt, levelOf, riverWrong}
+use Rattle.river.specs.Load.{cellExists}
+
+-- A total of a cell, counted from 0: the contents of all its amounts, added.
+unfoldable pub cellTotal : Set → Total → List ℤ → ℕ → ℤ
+cellTotal set t amounts c = sum substances (λ s. contents set t s (amountAt amounts c s))
+
+unfoldable pub totalsNumber : Set → River → ℕ → ℕ
+totalsNumber set r cell =
+    firstHolding
+    (1 when fractionsWrong set ∷ 2 when figuresWrong set ∷ 3 when rowsWrong set ∷ 4 when riverWrong r ∷ 5 when not (cellExists r cell) ∷ [])
+
+-- The six totals of a cell, grains; on refusal the number and zeros.
+unfoldable pub totalsAnswer : Set → River → ℕ → Totals
+totalsAnswer set r cell =
+    let n = totalsNumber set r cell in
+    let total : Total → ℤ = λ t. cond (eqb n 0) (cellTotal set t (r .amounts) (cell - 1)) (pos 0) in
+    record {
+      number = n;
+      carbon = total carbon;
+      hydrogen = total hydrogen;
+      oxygen = total oxygen;
+      nitrogen = total nitrogen;
+      phosphorus = total phosphorus;
+      charge = total charge;
+    }
+
+-- The letter of a cell, as ASCII: L (76) if the O2 level is below 2,000,000 µg; N (78) if the NH4 level is above
+-- 1,000,000 µg; else a hyphen (45).
+unfoldable pub letterOf : List ℤ → ℕ → ℕ
+letterOf amounts c =
+    cond (ltb (levelOf o2 (amountAt amounts c (place o2))) 2000000) 76
+    (cond (ltb 1000000 (levelOf nh4 (amountAt amounts c (place nh4)))) 78 45)
+
+unfoldable pub letterNumber : River → ℕ → ℕ
+letterNumber r cell = firstHolding (4 when riverWrong r ∷ 5 when not (cellExists r cell) ∷ [])
+
+-- The letter of a cell; on refusal the number and 0.
+unfoldable pub letterAnswer : River → ℕ → Letter
+letterAnswer r cell =
+    let n = letterNumber r cell in
+    record { number = n; letter = cond (eqb n 0) (letterOf (r .amounts) (cell - 1)) 0 }

@@ -1,0 +1,6 @@
+pub mod Rivers
+pub mod Load
+pub mod Flow
+pub mod Sizes
+pub mod Air
+pub mod Cells

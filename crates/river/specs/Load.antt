@@ -1,0 +1,42 @@
+-- Load (scope, "Flow, air, load, and the book"): adds a whole number of either sign to one amount. No assumptions.
+use Prim.Native.Nat.{ℕ, _+_, _*_, _-_}
+use mathlib.Core.Bool.{Bool, not, _&&_, cond}
+use mathlib.Core.List.{List, [], _∷_}
+use lib.Dec.{leb, eqb}
+use lib.ListN.{getD, set}
+use lib.IntN.{ℤ, pos, _+ℤ_}
+use Rattle.numeric.specs.Check.{firstHolding, _when_}
+use Rattle.stoichiometry.specs.Substances.{substances}
+use Rattle.river.specs.declared.River.{River}
+use Rattle.river.specs.declared.Changed.{Changed}
+use Rattle.river.specs.Rivers.{amountFits, amountAt, riverWrong}
+
+-- A cell of the river by its number, 1 to the number of cells; a substance by its number, 1 to 18.
+unfoldable pub cellExists : River → ℕ → Bool
+cellExists r cell = leb 1 cell && leb cell (r .cells)
+
+unfoldable pub substanceExists : ℕ → Bool
+substanceExists substance = leb 1 substance && leb substance substances
+
+-- The river with one amount changed: place s of cell c, both from 0.
+abbrev pub withAmount : River → ℕ → ℕ → ℤ → River
+withAmount r c s x = record { cells = r .cells; amounts = set (r .amounts) (c * substances + s) x; carries = r .carries }
+
+-- The amount after the load.
+abbrev pub loadedAmount : River → ℕ → ℕ → ℤ → ℤ
+loadedAmount r cell substance number = amountAt (r .amounts) (cell - 1) (substance - 1) +ℤ number
+
+unfoldable pub loadNumber : River → ℕ → ℕ → ℤ → ℕ
+loadNumber r cell substance number =
+    firstHolding
+    (4 when riverWrong r
+    ∷ 5 when not (cellExists r cell && substanceExists substance)
+    ∷ 8 when not (amountFits (substance - 1) (loadedAmount r cell substance number))
+    ∷ [])
+
+-- The river with the number added to the amount; on refusal the number of the refusal and the river handed in.
+unfoldable pub loadAnswer : River → ℕ → ℕ → ℤ → Changed
+loadAnswer r cell substance number =
+    let n = loadNumber r cell substance number in
+    let done = withAmount r (cell - 1) (substance - 1) (loadedAmount r cell substance number) in
+    record { number = n; river = cond (eqb n 0) done r }

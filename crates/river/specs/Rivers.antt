@@ -1,0 +1,113 @@
+-- The river (scope, "Units and substances" and "Numbers a caller may get"): the bounds of its amounts and carries, check 4,
+-- a fresh river, and the level of a substance. Laws: proofs/. No assumptions.
+use Prim.Native.Nat.{ℕ, _+_, _*_, _/_, _%_}
+use mathlib.Core.Bool.{Bool, not, _&&_, _||_, cond}
+use mathlib.Core.List.{List, [], _∷_, map}
+use lib.Dec.{leb, ltb, eqb}
+use lib.ListN.{getD, replicate}
+use lib.IntN.{ℤ, pos, negℤ, natAbs}
+use lib.Signed.{leZ}
+use Rattle.numeric.specs.Check.{every, firstHolding, _when_}
+use Rattle.stoichiometry.specs.Substances.{substances, Substance, organic, nh4, no2, no3, hpo4, o2, hco3, hPlus, xp, h2o, n2, order, grainsPerMicrogramO, grainsPerMicrogramN, grainsPerMicrogramP}
+use Rattle.stoichiometry.specs.Rows.{processes}
+use Rattle.river.specs.declared.River.{River}
+use Rattle.river.specs.declared.Changed.{Changed}
+
+-- The most cells of a river.
+abbrev pub mostCells : ℕ
+mostCells = 8
+
+-- The least and the most of a substance: organics in µg, the others in grains; H+ and H2O are net changes.
+abbrev pub lowest : Substance → ℤ
+lowest (organic x) = pos 0
+lowest nh4 = pos 0
+lowest no2 = pos 0
+lowest no3 = pos 0
+lowest hpo4 = pos 0
+lowest o2 = pos 0
+lowest hco3 = pos 0
+lowest hPlus = negℤ (pos 1000000000000000000)
+lowest xp = pos 0
+lowest h2o = negℤ (pos 1000000000000000000)
+lowest n2 = pos 0
+
+abbrev pub highest : Substance → ℤ
+highest (organic x) = pos 1000000000
+highest nh4 = pos 10000000000000000
+highest no2 = pos 10000000000000000
+highest no3 = pos 10000000000000000
+highest hpo4 = pos 10000000000000000
+highest o2 = pos 10000000000000000
+highest hco3 = pos 10000000000000000
+highest hPlus = pos 1000000000000000000
+highest xp = pos 10000000000000000
+highest h2o = pos 1000000000000000000
+highest n2 = pos 10000000000000000
+
+-- The same by the substance's place.
+unfoldable pub lowestAt : ℕ → ℤ
+lowestAt s = getD (map lowest order) s (pos 0)
+
+unfoldable pub highestAt : ℕ → ℤ
+highestAt s = getD (map highest order) s (pos 0)
+
+-- An amount of the substance at place s is in its bounds.
+unfoldable pub amountFits : ℕ → ℤ → Bool
+amountFits s x = leZ (lowestAt s) x && leZ x (highestAt s)
+
+-- Amount s of cell c, and carry p of cell c, all counted from 0.
+abbrev pub amountAt : List ℤ → ℕ → ℕ → ℤ
+amountAt amounts c s = getD amounts (c * substances + s) (pos 0)
+
+abbrev pub carryAt : List ℕ → ℕ → ℕ → ℕ
+carryAt carries c p = getD carries (c * processes + p) 0
+
+-- All amounts of the first n cells are in their bounds, all others are 0.
+unfoldable pub amountsFit : ℕ → List ℤ → Bool
+amountsFit n amounts =
+    every (mostCells * substances) (λ k.
+    cond (ltb (k / substances) n) (amountFits (k % substances) (getD amounts k (pos 0))) (eqb (natAbs (getD amounts k (pos 0))) 0))
+
+-- All carries of the first n cells are at most 999,999, all others are 0.
+unfoldable pub carriesFit : ℕ → List ℕ → Bool
+carriesFit n carries =
+    every (mostCells * processes) (λ k. cond (ltb (k / processes) n) (leb (getD carries k 0) 999999) (eqb (getD carries k 0) 0))
+
+-- A river is of 1 to 8 cells.
+unfoldable pub cellsFit : ℕ → Bool
+cellsFit n = leb 1 n && leb n mostCells
+
+-- Check 4: a river is not of 1 to 8 cells, or holds an amount or carry outside its bounds, or anything but zeros beyond its
+-- last cell.
+unfoldable pub riverWrong : River → Bool
+riverWrong r = not (cellsFit (r .cells) && amountsFit (r .cells) (r .amounts) && carriesFit (r .cells) (r .carries))
+
+-- A river of n cells, all zeros.
+abbrev pub zeroRiver : ℕ → River
+zeroRiver n = record { cells = n; amounts = replicate (mostCells * substances) (pos 0); carries = replicate (mostCells * processes) 0 }
+
+-- A fresh river of n cells; 4 and a river of 0 cells where n is not 1 to 8.
+unfoldable pub freshAnswer : ℕ → Changed
+freshAnswer n =
+    let number = firstHolding (4 when not (cellsFit n) ∷ []) in
+    record { number = number; river = zeroRiver (cond (eqb number 0) n 0) }
+
+-- Grains in one µg of a substance's element, the customer's W: N of NH4, NO2 and NO3, P of HPO4 and XP, O of O2; 1 for
+-- organics, which are in µg, and for substances that have no level.
+abbrev pub weightOf : Substance → ℕ
+weightOf (organic x) = 1
+weightOf nh4 = grainsPerMicrogramN
+weightOf no2 = grainsPerMicrogramN
+weightOf no3 = grainsPerMicrogramN
+weightOf hpo4 = grainsPerMicrogramP
+weightOf o2 = grainsPerMicrogramO
+weightOf hco3 = 1
+weightOf hPlus = 1
+weightOf xp = grainsPerMicrogramP
+weightOf h2o = 1
+weightOf n2 = 1
+
+-- The customer's "level", µg: an amount divided by W, rounded down; of an organic, its amount. Amounts that have a level
+-- are not negative.
+unfoldable pub levelOf : Substance → ℤ → ℕ
+levelOf s amount = natAbs amount / weightOf s

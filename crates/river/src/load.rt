@@ -1,0 +1,55 @@
+// Load: a whole number of either sign is added to one amount. Also what other calls on one cell share: whether the cell
+// exists, and the river with one amount changed.
+ghost use mathlib.Core.Path.{_≡_};
+ghost use Prim.Native.Nat.{_<_, _≤_};
+ghost use lib.IntN.{natAbs, _+ℤ_};
+ghost use Rattle.stoichiometry.specs.Substances.{substances};
+ghost use Rattle.river.specs.Rivers.{mostCells, amountFits};
+ghost use Rattle.river.specs.Load.{cellExists, substanceExists, withAmount};
+use crate::River;
+use crate::check::amount_fits;
+use numeric::both;
+use stoichiometry::SUBSTANCES;
+
+// The amounts before and after are within River::NET_MOST of 0, so no load is more than twice that, either way.
+const LOAD_MOST: i64 = 2000000000000000000;
+
+// A cell and a substance by their numbers, counted from 1.
+pub(crate) fn cell_exists(river: River, cell: u32) -> bool
+    ensures { λ r. ⌜ r ≡ cellExists river cell ⌝ }
+{
+    both(1 <= cell, cell <= river.cells)
+}
+
+pub(crate) fn substance_exists(substance: u32) -> bool
+    ensures { λ r. ⌜ r ≡ substanceExists substance ⌝ }
+{
+    both(1 <= substance, substance as usize <= SUBSTANCES)
+}
+
+// The river with amount s of cell c changed, both counted from 0.
+pub(crate) fn with_amount(river: River, c: usize, s: usize, x: i64) -> River
+    requires cell { ⌜ c < mostCells ⌝ }
+    requires substance { ⌜ s < substances ⌝ }
+    ensures { λ r. ⌜ r ≡ withAmount river c s x ⌝ }
+{
+    let mut changed = river;
+    changed.amounts[c * SUBSTANCES + s] = x;
+    changed
+}
+
+// Whether amount + number is in the bounds of the substance at place s. A number that is too large is not added, so
+// that the sum fits 64 bits.
+pub(crate) fn sum_fits(s: usize, amount: i64, number: i64) -> bool
+    requires substance { ⌜ s < substances ⌝ }
+    requires amount { ⌜ natAbs amount ≤ 1000000000000000000 ⌝ }
+    ensures { λ r. ⌜ r ≡ amountFits s (amount +ℤ number) ⌝ }
+{
+    if number < -LOAD_MOST {
+        return false;
+    }
+    if LOAD_MOST < number {
+        return false;
+    }
+    amount_fits(s, amount + number)
+}

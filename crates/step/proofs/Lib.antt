@@ -1,0 +1,7 @@
+pub mod Cases
+pub mod ExtentBounds
+pub mod RatingLaws
+pub mod StepArithmetic
+pub mod StepLoop
+pub mod StepLaws
+pub mod StepNumber

@@ -1,0 +1,175 @@
+-- What the inner functions of the step make, in terms of the step's definitions: amounts and carries after, check 7, and
+-- what a river that passes check 4 gives to the arithmetic. No assumptions.
+use Prim.Native.Nat.{ℕ, _+_, _*_, _/_, _%_, _≤_, _<_}
+use mathlib.Core.Bool.{Bool, true, false, not, cond}
+use mathlib.Core.List.{List}
+use mathlib.Core.Path.{_≡_, refl, sym, ap, ap₂, _∙_}
+use native.Mathlib.Omega.{arith}
+use native.Mathlib.Decide.{decLt}
+use lib.Dec.{leb, ltb}
+use lib.ListN.{getD}
+use lib.IntN.{ℤ, pos, natAbs, _+ℤ_, _*ℤ_}
+use lib.Signed.{leZ}
+use borrow.Author.Tests.{lt-ltb, le-ltb, leb-true, not-false}
+use Rattle.numeric.specs.Check.{every}
+use Rattle.numeric.specs.Sum.{sum}
+use Rattle.numeric.specs.Table.{tab}
+use Rattle.numeric.proofs.CheckLaws.{every-at, every-all}
+use Rattle.numeric.proofs.SumLaws.{sum-eq}
+use Rattle.numeric.proofs.TableLaws.{getD-tab, tab-eq}
+use Rattle.stoichiometry.specs.declared.Set.{Set}
+use Rattle.stoichiometry.specs.Substances.{substances}
+use Rattle.stoichiometry.specs.Parameters.{fractionsWrong, figuresWrong}
+use Rattle.stoichiometry.specs.Rows.{processes, rowEntry, rowsOf}
+use Rattle.stoichiometry.proofs.Balance.{getD-rows}
+use Rattle.kinetics.specs.declared.Conditions.{Conditions}
+use Rattle.river.specs.declared.River.{River}
+use Rattle.river.specs.Rivers.{mostCells, amountAt, carryAt, riverWrong}
+use Rattle.river.proofs.Rivers.{river-cells, amount-fits-at, amount-bound, carry-bound}
+use Rattle.step.specs.declared.cells.Batches.{Batches}
+use Rattle.step.specs.Steps.{batches, newCarry, newAmount, steppedAmounts, steppedCarries, conditionsWrong, batchesWrong}
+use Rattle.step.specs.Stepping.{Whole, Amounts, Carries, Going, addedFrom, newFrom, appliedFrom, wholeFrom, restFrom, batchesFrom}
+
+-- Two tests that hold together are one.
+same-test : (a b : Bool) → (a ≡ true → b ≡ true) → (b ≡ true → a ≡ true) → a ≡ b
+same-test true true f g = refl
+same-test true false f g = sym (f refl)
+same-test false true f g = g refl
+same-test false false f g = refl
+
+module _ (set : Set) (given : Conditions) (r : River) (right : riverWrong r ≡ false) where
+  n : ℕ
+  n = r .cells
+
+  most : r .cells ≤ 8
+  most = river-cells r right .1
+
+  whole : List ℤ
+  whole = tab 136 (wholeFrom set given (r .cells) (r .amounts) (r .carries))
+
+  -- The carries after.
+  pub rest-is : tab 136 (restFrom set given (r .cells) (r .amounts) (r .carries)) ≡ steppedCarries set given r
+  unfolding restFrom steppedCarries
+  rest-is = refl
+
+  whole-in-cell : (c p : ℕ) → c < r .cells → p < 17
+      → getD whole (c * 17 + p) (pos 0) ≡ pos (batches set given (amountAt (r .amounts) c) (carryAt (r .carries) c) p)
+  unfolding wholeFrom whole
+  whole-in-cell c p h l =
+      let cell : (c * 17 + p) / 17 ≡ c = omega arith in
+      let place : (c * 17 + p) % 17 ≡ p = omega arith in
+      getD-tab 136 (wholeFrom set given (r .cells) (r .amounts) (r .carries)) (c * 17 + p) (pos 0) (omega (arith, most))
+      ∙ rw (cell, place, lt-ltb c (r .cells) h)
+
+  cell-new : (c s : ℕ) → c < r .cells → s < 18
+      → getD (r .amounts) (c * 18 + s) (pos 0) +ℤ sum 17 (λ p. addedFrom whole (c * 17) (rowsOf set) s p)
+      ≡ newAmount set given (amountAt (r .amounts) c) (carryAt (r .carries) c) s
+  unfolding newAmount
+  cell-new c s h l =
+      ap (λ (z : ℤ). getD (r .amounts) (c * 18 + s) (pos 0) +ℤ z)
+      (sum-eq 17 (λ p. addedFrom whole (c * 17) (rowsOf set) s p)
+      (λ p. pos (batches set given (amountAt (r .amounts) c) (carryAt (r .carries) c) p) *ℤ rowEntry set p s)
+      (λ p k. ap₂ _*ℤ_ (whole-in-cell c p h k) (getD-rows set p s k l)))
+
+  at-place : (k : ℕ) → k < 144 → Dec (k / 18 < r .cells)
+      → newFrom (r .cells) (r .amounts) whole (rowsOf set) k
+      ≡ cond (ltb (k / 18) (r .cells)) (newAmount set given (amountAt (r .amounts) (k / 18)) (carryAt (r .carries) (k / 18)) (k % 18)) (pos 0)
+  at-place k h (yes l) =
+      let place : k / 18 * 18 + k % 18 ≡ k = omega arith in
+      rw (lt-ltb (k / 18) (r .cells) l)
+      (ap (λ (j : ℕ). getD (r .amounts) j (pos 0) +ℤ sum 17 (λ p. addedFrom whole (k / 18 * 17) (rowsOf set) (k % 18) p)) (sym place)
+      ∙ cell-new (k / 18) (k % 18) l (omega arith))
+  at-place k h (no g) = rw (le-ltb (k / 18) (r .cells) (omega arith))
+
+  -- The amounts after.
+  pub applied-is : appliedFrom (r .cells) (r .amounts) (tab 136 (wholeFrom set given (r .cells) (r .amounts) (r .carries))) (rowsOf set) ≡ steppedAmounts set given r
+  unfolding appliedFrom steppedAmounts whole
+  applied-is = tab-eq 144 _ _ (λ k h. at-place k h (decLt (k / 18) (r .cells)))
+
+  few : ℕ → ℕ → Bool
+  few c p = leb (batches set given (amountAt (r .amounts) c) (carryAt (r .carries) c) p) 100000
+
+  test : ℕ → Bool
+  test k = leZ (getD whole k (pos 0)) (pos 100000)
+
+  nested-flat : every (r .cells) (λ c. every processes (few c)) ≡ true → (k : ℕ) → k < 136 → Dec (k / 17 < r .cells) → test k ≡ true
+  unfolding few test whole wholeFrom
+  nested-flat e k h (yes l) =
+      rw (getD-tab 136 (wholeFrom set given (r .cells) (r .amounts) (r .carries)) k (pos 0) h, lt-ltb (k / 17) (r .cells) l)
+      (every-at processes (k % 17) (few (k / 17)) (every-at (r .cells) (k / 17) (λ c. every processes (few c)) e l) (omega arith))
+  nested-flat e k h (no g) =
+      rw (getD-tab 136 (wholeFrom set given (r .cells) (r .amounts) (r .carries)) k (pos 0) h, le-ltb (k / 17) (r .cells) (omega arith))
+
+  flat-nested : every 136 test ≡ true → (c : ℕ) → c < r .cells → (p : ℕ) → p < processes → few c p ≡ true
+  unfolding few test
+  flat-nested e c h p l =
+      rw (whole-in-cell c p h l) at (every-at 136 (c * 17 + p) test e (omega (arith, most)))
+
+  -- Check 7.
+  pub too-many-is : not (every 136 (λ k. leZ (getD (tab 136 (wholeFrom set given (r .cells) (r .amounts) (r .carries))) k (pos 0)) (pos 100000))) ≡ batchesWrong set given r
+  unfolding batchesWrong few test whole
+  too-many-is =
+      ap not
+      (same-test (every 136 test) (every (r .cells) (λ c. every processes (few c)))
+      (λ e. every-all (r .cells) (λ c. every processes (few c)) (λ c h. every-all processes (few c) (λ p l. flat-nested e c h p l)))
+      (λ e. every-all 136 test (λ k h. nested-flat e k h (decLt (k / 17) (r .cells)))))
+
+  whole-value : (k : ℕ) → k < 136 → Dec (k / 17 < r .cells) → (b : ℕ) × (getD whole k (pos 0) ≡ pos b)
+  unfolding whole wholeFrom
+  whole-value k h (yes l) = (
+    batches set given (amountAt (r .amounts) (k / 17)) (carryAt (r .carries) (k / 17)) (k % 17),
+    rw (getD-tab 136 (wholeFrom set given (r .cells) (r .amounts) (r .carries)) k (pos 0) h, lt-ltb (k / 17) (r .cells) l),
+  )
+  whole-value k h (no g) =
+      (0, rw (getD-tab 136 (wholeFrom set given (r .cells) (r .amounts) (r .carries)) k (pos 0) h, le-ltb (k / 17) (r .cells) (omega arith)))
+
+  -- Whole batches that passed check 7.
+  pub whole-small : not (every 136 (λ k. leZ (getD (tab 136 (wholeFrom set given (r .cells) (r .amounts) (r .carries))) k (pos 0)) (pos 100000))) ≡ false
+      → Whole (tab 136 (wholeFrom set given (r .cells) (r .amounts) (r .carries)))
+  unfolding whole test
+  whole-small e =
+      record {
+        most =
+            λ k h.
+            let v = whole-value k h (decLt (k / 17) (r .cells)) in
+            let t = rw (v .1) at (every-at 136 k test (not-false (every 136 test) e) h) in
+            rw (v .1) (leb-true (v .0) 100000 t);
+      }
+
+  -- The amounts of a river that passes check 4.
+  pub amounts-small : Amounts (r .amounts)
+  amounts-small = record { most = λ k h. amount-bound r right k h }
+
+  -- What the loop over the cells works on.
+  pub going : figuresWrong set ≡ false → conditionsWrong given ≡ false → Going set given (r .cells) (rowsOf set) (r .amounts) (r .carries)
+  going f c =
+      record {
+        cells = most;
+        figures = f;
+        conditions = c;
+        rows = refl;
+        amount = λ c s h l. amount-fits-at r right c s h l;
+        carry = record { most = λ k h. carry-bound r right k h };
+      }
+
+  -- The same of the lists that the code made.
+  module _ (b : Batches) (made : b ≡ batchesFrom set given (r .cells) (r .amounts) (r .carries)) where
+    whole-made : b .whole ≡ tab 136 (wholeFrom set given (r .cells) (r .amounts) (r .carries))
+    unfolding batchesFrom
+    whole-made = ap (λ (x : Batches). x .whole) made
+
+    pub made-carries : b .carries ≡ steppedCarries set given r
+    unfolding batchesFrom
+    made-carries = ap (λ (x : Batches). x .carries) made ∙ rest-is
+
+    pub made-number : (t : Bool) → t ≡ not (every 136 (λ k. leZ (getD (b .whole) k (pos 0)) (pos 100000))) → batchesWrong set given r ≡ t
+    made-number t e =
+        sym (e ∙ ap (λ (w : List ℤ). not (every 136 (λ k. leZ (getD w k (pos 0)) (pos 100000)))) whole-made ∙ too-many-is)
+
+    pub made-small : not (every 136 (λ k. leZ (getD (b .whole) k (pos 0)) (pos 100000))) ≡ false → Whole (b .whole)
+    made-small e = rw whole-made (whole-small (rw whole-made at e))
+
+    pub made-amounts : (entries out : List ℤ) → entries ≡ rowsOf set → out ≡ appliedFrom (r .cells) (r .amounts) (b .whole) entries
+        → out ≡ steppedAmounts set given r
+    made-amounts entries out f e =
+        e ∙ ap₂ (λ (w l : List ℤ). appliedFrom (r .cells) (r .amounts) w l) whole-made f ∙ applied-is

@@ -1,0 +1,77 @@
+-- The number of a step, check by check, and its answer once the checks of what it was given are passed. No assumptions.
+use Prim.Native.Nat.{ℕ, zero, suc}
+use mathlib.Core.Bool.{Bool, true, false, not, cond}
+use mathlib.Core.List.{[], _∷_}
+use mathlib.Core.Path.{_≡_, refl, sym, ap, _∙_}
+use lib.Dec.{lit<, eqb·suc-zero}
+use Rattle.numeric.specs.Check.{firstHolding, _when_}
+use Rattle.numeric.proofs.CheckLaws.{first-zero, first-fails}
+use Rattle.stoichiometry.specs.declared.Set.{Set}
+use Rattle.stoichiometry.specs.Parameters.{fractionsWrong, figuresWrong}
+use Rattle.stoichiometry.specs.Rows.{rowsOf}
+use Rattle.stoichiometry.specs.Sets.{rowsWrong, setNumber}
+use Rattle.rows.specs.declared.Rows.{Rows}
+use Rattle.rows.specs.Answers.{rowsAnswer}
+use Rattle.kinetics.specs.declared.Conditions.{Conditions}
+use Rattle.river.specs.declared.River.{River}
+use Rattle.river.specs.Rivers.{amountsFit, riverWrong}
+use Rattle.step.specs.Steps.{steppedAmounts, conditionsWrong, batchesWrong, stepNumber, stepAnswer}
+use Rattle.step.specs.Stepping.{refusedWith, steppedAnswer}
+
+number-by : (set : Set) (n : ℕ) → setNumber set ≡ n → rowsAnswer set .number ≡ n
+unfolding rowsAnswer
+number-by set zero e = rw e
+number-by set (suc n) e = rw (e, eqb·suc-zero n)
+
+-- The number and the entries that the rows of a set are answered with.
+pub rows-number : (set : Set) (x : Rows) → x ≡ rowsAnswer set → x .number ≡ setNumber set
+rows-number set x e = ap (λ (a : Rows). a .number) e ∙ number-by set (setNumber set) refl
+
+pub rows-entries : (set : Set) (x : Rows) → x ≡ rowsAnswer set → setNumber set ≡ 0 → x .entries ≡ rowsOf set
+unfolding rowsAnswer
+rows-entries set x e z = rw (e, z)
+
+module _ (set : Set) (r : River) (given : Conditions) where
+  set-by : (a b c : Bool) → fractionsWrong set ≡ a → figuresWrong set ≡ b → rowsWrong set ≡ c
+      → (setNumber set ≡ 0 → ⊥) → stepAnswer set r given ≡ refusedWith (setNumber set) r
+  unfolding stepAnswer stepNumber setNumber firstHolding
+  set-by true b c p q s h = rw p
+  set-by false true c p q s h = rw (p, q)
+  set-by false false true p q s h = rw (p, q, s)
+  set-by false false false p q s h = absurd (h (rw (p, q, s)))
+
+  -- Refused by 1, 2 or 3: the number of the set.
+  pub set-refused : (setNumber set ≡ 0 → ⊥) → stepAnswer set r given ≡ refusedWith (setNumber set) r
+  set-refused h = set-by (fractionsWrong set) (figuresWrong set) (rowsWrong set) refl refl refl h
+
+  -- The checks of a set, where its number is 0.
+  pub set-passed : setNumber set ≡ 0 → (fractionsWrong set ≡ false) × (figuresWrong set ≡ false) × (rowsWrong set ≡ false)
+  unfolding setNumber
+  set-passed e =
+      let one = first-zero 1 (fractionsWrong set) _ (lit< tt) e in
+      let after-one = first-fails 1 (fractionsWrong set) _ one in
+      let two = first-zero 2 (figuresWrong set) _ (lit< tt) (sym after-one ∙ e) in
+      let after-two = first-fails 2 (figuresWrong set) _ two in
+      (one, two, first-zero 3 (rowsWrong set) [] (lit< tt) (sym after-two ∙ sym after-one ∙ e))
+
+  module _ (one : fractionsWrong set ≡ false) (two : figuresWrong set ≡ false) (three : rowsWrong set ≡ false) where
+    -- Refused by 4: the river.
+    pub river-refused : riverWrong r ≡ true → stepAnswer set r given ≡ refusedWith 4 r
+    unfolding stepAnswer stepNumber firstHolding
+    river-refused e = rw (one, two, three, e)
+
+    -- Refused by 6: the conditions.
+    pub conditions-refused : riverWrong r ≡ false → conditionsWrong given ≡ true → stepAnswer set r given ≡ refusedWith 6 r
+    unfolding stepAnswer stepNumber firstHolding
+    conditions-refused e f = rw (one, two, three, e, f)
+
+    passed-by : (a b : Bool) → batchesWrong set given r ≡ a → amountsFit (r .cells) (steppedAmounts set given r) ≡ b
+        → riverWrong r ≡ false → conditionsWrong given ≡ false → stepAnswer set r given ≡ steppedAnswer set r given
+    unfolding stepAnswer stepNumber firstHolding steppedAnswer
+    passed-by true b p q e f = rw (one, two, three, e, f, p)
+    passed-by false true p q e f = rw (one, two, three, e, f, p, q)
+    passed-by false false p q e f = rw (one, two, three, e, f, p, q)
+
+    -- What it was given passed its checks.
+    pub given-passed : riverWrong r ≡ false → conditionsWrong given ≡ false → stepAnswer set r given ≡ steppedAnswer set r given
+    given-passed e f = passed-by (batchesWrong set given r) (amountsFit (r .cells) (steppedAmounts set given r)) refl refl e f

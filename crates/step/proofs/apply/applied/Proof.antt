@@ -1,0 +1,59 @@
+-- `step::apply::applied` meets its contract. The loop's invariant: the amounts of the first c cells are the new ones, and
+-- zeros follow. No assumptions.
+use Prim.Native.Nat.{_+_, _*_, _-_, _≤_, _<_}
+use mathlib.Core.Path.{_≡_}
+use native.Mathlib.Omega.{arith}
+use lib.IntN.{pos}
+use Rattle.numeric.proofs.Filling.{FilledThen, then-none, then-run, then-done}
+use Rattle.step.specs.Stepping.{newFrom, appliedFrom}
+use Rattle.step.proofs.StepArithmetic.{new-at, new-beyond}
+use Rattle.step.proofs.apply.applied.Statement.{statement}
+use Rattle.step.proofs.apply.applied.Tie as tie
+
+abbrev Inv-loop : tie.InvT-loop
+Inv-loop n amounts whole entries out₀ c₀ out c = (c ≤ n) × FilledThen 144 (c * 18) (newFrom n amounts whole entries) (pos 0) out
+
+abbrev μ-loop : tie.MeasureT-loop
+μ-loop n amounts whole entries out₀ c₀ out c = n - c
+
+loop-holds : tie.Need-loop-holds Inv-loop μ-loop
+loop-holds c = (omega arith, then-none 144 _ (pos 0))
+
+apply-cell-requires : tie.Need-apply-cell-requires Inv-loop μ-loop
+apply-cell-requires c κs =
+    let at-loop = c .before .before in
+    let start = at-loop .before in
+    (omega arith, start .pre .1, start .pre .2, start .pre .3)
+
+add-c : tie.Need-add-c Inv-loop μ-loop
+add-c c = omega arith
+
+loop-less : tie.Need-loop-less Inv-loop μ-loop
+loop-less c = omega arith
+
+loop-again : tie.Need-loop-again Inv-loop μ-loop
+loop-again c =
+    let entered = c .before .before in
+    let at-loop = entered .before in
+    let start = at-loop .before in
+    let k = at-loop .loop .c in
+    let a = start .args .amounts .now in
+    let w = start .args .whole .now in
+    let e = start .args .entries .now in
+    let more : k * 18 + 18 ≡ (k + 1) * 18 = omega arith in
+    let next = then-run 144 (k * 18) 18 _ _ (pos 0) _ _ (at-loop .loop .inv .1) (omega arith) (λ s l. new-at (start .args .n) a w e k s (entered .loop-test .taken) l) (c .apply-cell .ensures) in
+    (omega arith, rw more at next)
+
+returns : tie.Need-returns Inv-loop μ-loop
+unfolding appliedFrom
+returns c =
+    let at-loop = c .before in
+    let start = at-loop .before in
+    let finished : at-loop .loop .c ≡ start .args .n = omega arith in
+    then-done 144 (at-loop .loop .c * 18) _ (pos 0) _ (at-loop .loop .inv .1)
+    (λ k h l. new-beyond (start .args .n) (start .args .amounts .now) (start .args .whole .now) (start .args .entries .now) k (rw finished at h))
+
+pub applied-spec : {M : Type 1} → statement M
+applied-spec =
+    tie.close
+    (tie.spec Inv-loop μ-loop loop-holds apply-cell-requires add-c loop-less loop-again returns)

@@ -1,0 +1,2 @@
+-- Laws by subject: totals of a cell.
+pub mod TotalsLaws

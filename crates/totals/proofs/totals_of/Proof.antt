@@ -1,0 +1,136 @@
+-- `totals_of` meets its contract: each return is a case of the number (TotalsLaws.antt). No assumptions.
+use Prim.Native.Nat.{_<_, _≤_, _-_}
+use mathlib.Core.Bool.{true, false}
+use mathlib.Core.Path.{_≡_, sym, ap, _∙_}
+use native.Mathlib.Omega.{arith}
+use borrow.Author.Tests.{leb-true}
+use borrow.Author.Needs.{needs}
+use lib.Dec.{leb}
+use Rattle.numeric.proofs.CheckLaws.{and-left, and-right}
+use Rattle.stoichiometry.specs.Sets.{setNumber}
+use Rattle.river.specs.Rivers.{riverWrong}
+use Rattle.river.specs.Load.{cellExists}
+use Rattle.totals.specs.TotalsCode.{refusedTotals}
+use Rattle.river.proofs.Rivers.{river-cells}
+use Rattle.totals.proofs.TotalsLaws.{cell-addable, fractions-right, totals-set-refused, totals-river-refused, totals-cell-refused, totals-accepted}
+use Rattle.totals.proofs.totals_of.Statement.{statement}
+use Rattle.totals.proofs.totals_of.Tie as tie
+
+-- The start, seen from where the cell is known to exist.
+abbrev start : tie.Then3 → tie.Start
+start c = c .before .before .before .before .before .before
+
+-- The cell exists where the test is passed.
+exists : (c : tie.Then3) → cellExists (start c .args .t2) (start c .args .cell) ≡ true
+unfolding cellExists
+exists c = sym (c .before .both .ensures) ∙ c .if3 .taken
+
+-- Its number is from 1 to the number of cells.
+inside : (c : tie.Then3) → let a = start c .args in (1 ≤ a .cell) × (a .cell ≤ a .t2 .cells)
+unfolding cellExists
+inside c =
+    let a = start c .args in
+    let first = leb 1 (a .cell) in
+    let last = leb (a .cell) (a .t2 .cells) in
+    (leb-true _ _ (and-left first last (exists c)), leb-true _ _ (and-right first last (exists c)))
+
+-- No check of the set holds, and the river is right.
+accepted : (c : tie.Else1) → setNumber (c .before .before .args .set) ≡ 0
+accepted c = sym (c .before .number-of .ensures) ∙ c .if1 .left
+
+right : (c : tie.Else2) → riverWrong (c .before .before .before .before .args .t2) ≡ false
+right c = sym (c .before .river-wrong .ensures) ∙ c .if2 .left
+
+number-of-requires : tie.Need-number-of-requires
+number-of-requires c κs = search needs
+
+refused-totals-requires : tie.Need-refused-totals-requires
+refused-totals-requires c κs = search needs
+
+-- Refused by 1, 2 or 3.
+returns : tie.Need-returns
+returns c =
+    let at-number = c .before .before in
+    let a = at-number .before .args in
+    let is = at-number .number-of .ensures in
+    c .refused-totals .ensures ∙ ap refusedTotals is
+    ∙ sym (totals-set-refused (a .set) (a .t2) (a .cell) (λ e. c .before .if1 .taken (is ∙ e)))
+
+river-wrong-requires : tie.Need-river-wrong-requires
+river-wrong-requires c κs = search needs
+
+refused-totals-requires-2 : tie.Need-refused-totals-requires-2
+refused-totals-requires-2 c κs = search needs
+
+-- By 4.
+returns-2 : tie.Need-returns-2
+returns-2 c =
+    let at-river = c .before .before in
+    let a = at-river .before .before .before .args in
+    let wrong = sym (at-river .river-wrong .ensures) ∙ c .before .if2 .taken in
+    c .refused-totals2 .ensures
+    ∙ sym (totals-river-refused (a .set) (a .t2) (a .cell) (accepted (at-river .before)) wrong)
+
+both-requires : tie.Need-both-requires
+both-requires c κs = search needs
+
+sub-cell-start : tie.Need-sub-cell-start
+sub-cell-start c = omega (arith, inside c .0)
+
+cast-cell-start : tie.Need-cast-cell-start
+cast-cell-start c = search needs
+
+mul-cell-start : tie.Need-mul-cell-start
+mul-cell-start c = search needs
+
+totals-at-requires : tie.Need-totals-at-requires
+totals-at-requires c κs =
+    let at-cell = c .before .before in
+    let passed = at-cell .before .before in
+    let a = start at-cell .args in
+    let set-right = fractions-right (a .set) (accepted (passed .before .before)) in
+    let most = river-cells (a .t2) (right passed) .1 in
+    let below : a .cell - 1 < a .t2 .cells = omega (arith, inside at-cell .0, inside at-cell .1) in
+    (omega (arith, below, most), cell-addable (a .set) (a .t2) set-right (right passed) (a .cell - 1) below)
+
+-- Not refused.
+returns-3 : tie.Need-returns-3
+returns-3 c =
+    let at-cell = c .before .before .before in
+    let passed = at-cell .before .before in
+    let a = start at-cell .args in
+    c .totals-at .ensures
+    ∙ sym (totals-accepted (a .set) (a .t2) (a .cell) (accepted (passed .before .before)) (right passed) (exists at-cell))
+
+refused-totals-requires-3 : tie.Need-refused-totals-requires-3
+refused-totals-requires-3 c κs = search needs
+
+-- By 5.
+returns-4 : tie.Need-returns-4
+unfolding cellExists
+returns-4 c =
+    let at-both = c .before .before in
+    let passed = at-both .before in
+    let a = passed .before .before .before .before .args in
+    let none = sym (at-both .both .ensures) ∙ c .before .if3 .left in
+    c .refused-totals3 .ensures
+    ∙ sym (totals-cell-refused (a .set) (a .t2) (a .cell) (accepted (passed .before .before)) (right passed) none)
+
+pub totals-of-spec : {M : Type 1} → statement M
+totals-of-spec =
+    tie.close
+    (tie.spec
+    number-of-requires
+    refused-totals-requires
+    returns
+    river-wrong-requires
+    refused-totals-requires-2
+    returns-2
+    both-requires
+    sub-cell-start
+    cast-cell-start
+    mul-cell-start
+    totals-at-requires
+    returns-3
+    refused-totals-requires-3
+    returns-4)

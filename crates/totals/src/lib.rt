@@ -1,0 +1,32 @@
+// The six totals of one cell: C, H, O, N, P and charge, under a set.
+ghost use mathlib.Core.Path.{_≡_};
+ghost use Rattle.river.specs.Cells.{totalsAnswer};
+use crate::cell_totals::refused_totals;
+use crate::cell_totals::totals_at;
+use numeric::both;
+use river::River;
+use river::Totals;
+use river::river_wrong;
+use rows::number_of;
+use stoichiometry::SUBSTANCES;
+use stoichiometry::Set;
+
+mod cell_totals;
+
+// The six totals of a cell, 1 to the number of cells, under a set. Refuses with 1, 2, 3, 4 and 5.
+pub fn totals_of(set: Set, river: River, cell: u32) -> Totals
+    ensures answer { λ r. ⌜ r ≡ totalsAnswer set river cell ⌝ }
+{
+    let number = number_of(set);
+    if number != 0 {
+        return refused_totals(number);
+    }
+    if river_wrong(river) {
+        return refused_totals(4);
+    }
+    if both(1 <= cell, cell <= river.cells) {
+        let cell_start = (cell - 1) as usize * SUBSTANCES;
+        return totals_at(set, &river.amounts, cell_start);
+    }
+    refused_totals(5)
+}
