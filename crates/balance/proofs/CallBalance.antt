@@ -10,7 +10,7 @@ use lib.Dec.{eqb, lit<}
 use lib.ListN.{length}
 use lib.IntN.{ℤ, pos, _+ℤ_, +ℤ-idr}
 use borrow.Author.Tests.{eqb-true, eqb-false, eq-eqb, ne-eqb, not-false}
-use Rattle.numeric.proofs.CheckLaws.{and-left, and-right, leb-within, none-holds}
+use Rattle.numeric.proofs.CheckLaws.{and-left, and-right, none-holds}
 use Rattle.stoichiometry.specs.declared.Set.{Set}
 use Rattle.stoichiometry.specs.Substances.{substances, o2, place, Total, contents}
 use Rattle.kinetics.specs.declared.Conditions.{Conditions}
@@ -22,12 +22,13 @@ use Rattle.river.specs.Load.{cellExists, substanceExists, loadedAmount, loadNum
 use Rattle.river.specs.Flow.{leftOf, flowedAmounts, flowNumber, flowAnswer}
 use Rattle.river.specs.Air.{gainAt, airedAmount, airNumber, airAnswer}
 use Rattle.river.specs.Cells.{cellTotal}
+use Rattle.river.proofs.Rivers.{river-cells, cell-bound, substance-bound}
 use Rattle.step.specs.Steps.{steppedAmounts, stepNumber, stepAnswer}
 use Rattle.balance.specs.Calls.{Call, load, flow, air, step, Answer, among, booked}
 use Rattle.balance.specs.Held.{act, held}
 use Rattle.balance.proofs.CellTotals.{added, step-keeps-cell}
 use Rattle.balance.proofs.HeldLaws.{held-added, held-flow, held-step}
-use Rattle.balance.proofs.Soundness.{Sound, right-cells, sound-cells, sound-amount, sound-flow, sound-step}
+use Rattle.balance.proofs.Soundness.{Sound, sound-cells, sound-amount, sound-flow, sound-step}
 
 -- What a call adds to the book of cells i to j.
 abbrev pub entered : Set → Total → ℕ → ℕ → Call → Answer → ℤ
@@ -62,15 +63,6 @@ module _ (set : Set) (call : Call) (n : ℕ) (r : River) (a : Answer) where
         balance = λ i j p l m t. rw (ne-eqb (a .number) 0 f) (sym (+ℤ-idr (held set t (r .amounts) i j)));
       }
 
--- The cell is one of the river's; the substance is one of the 18.
-cell-in : (r : River) (cell : ℕ) → cellExists r cell ≡ true → (1 ≤ cell) × (cell ≤ r .cells)
-unfolding cellExists
-cell-in r cell e = leb-within 1 cell (r .cells) e
-
-substance-in : (substance : ℕ) → substanceExists substance ≡ true → (1 ≤ substance) × (substance ≤ substances)
-unfolding substanceExists
-substance-in substance e = leb-within 1 substance substances e
-
 -- A number x added to the amount at place s of a cell, as load and air do.
 added-balance : (set : Set) (n : ℕ) (r : River) → Sound n r → (cell s : ℕ) (x : ℤ)
     → (1 ≤ cell) × (cell ≤ r .cells) → s < substances → (i j : ℕ) → 1 ≤ i → (t : Total)
@@ -101,8 +93,8 @@ load-kept set n r sound cell substance number =
     let a : Answer = record { number = loadNumber r cell substance number; left = []; amount = pos 0 } in
     by-number (Kept set call n r a) (loadNumber r cell substance number) _ r
     (λ e. let passes = load-passes r cell substance number e in
-    let at-cell = cell-in r cell (and-left (cellExists r cell) (substanceExists substance) (passes .0)) in
-    let at-place = substance-in substance (and-right (cellExists r cell) (substanceExists substance) (passes .0)) in
+    let at-cell = cell-bound r cell (and-left (cellExists r cell) (substanceExists substance) (passes .0)) in
+    let at-place = substance-bound substance (and-right (cellExists r cell) (substanceExists substance) (passes .0)) in
     let there : substance - 1 < substances = omega arith in
     done set call n r a _ e
     (sound-amount n r sound (cell - 1) (substance - 1) _ (omega (arith, sound .cells)) there (passes .1))
@@ -125,7 +117,7 @@ flow-kept set n r sound part =
     (λ e. done set (flow part) n r _ _ refl (sound-flow n r sound (leftOf part (r .amounts)) (flow-passes r part e))
     (λ i j p l m t.
     held-flow set t (r .cells) (r .amounts) (leftOf part (r .amounts)) i j p l (omega (arith, sound .cells))
-    (right-cells r (sound .right) .1)))
+    (river-cells r (sound .right) .1)))
     (λ f. refused set (flow part) n r _ f sound)
 
 -- Air: one amount changed, by the gain.
@@ -147,7 +139,7 @@ air-kept set n r sound cell k seconds saturation =
     let call = air cell k seconds saturation in
     by-number (λ f. Kept set call n r (airGives f) (f .river)) (airNumber r cell k seconds saturation) _ _
     (λ e. let passes = air-passes r cell k seconds saturation e in
-    let at-cell = cell-in r cell (passes .0) in
+    let at-cell = cell-bound r cell (passes .0) in
     done set call n r _ _ refl
     (sound-amount n r sound (cell - 1) (place o2) _ (omega (arith, sound .cells)) (lit< tt) (passes .1))
     (λ i j p l m t.
@@ -171,7 +163,7 @@ step-kept set n r sound given =
     by-number (Kept set (step given) n r a) (stepNumber set r given) _ r
     (λ e. done set (step given) n r a _ e (sound-step set given n r sound (step-passes set r given e .1))
     (λ i j p l m t.
-    held-step set t given r i j p (omega (arith, sound .cells)) (right-cells r (sound .right) .1)
+    held-step set t given r i j p (omega (arith, sound .cells)) (river-cells r (sound .right) .1)
     ∙ sym (+ℤ-idr (held set t (r .amounts) i j))))
     (λ f. refused set (step given) n r a f sound)
 
@@ -181,7 +173,7 @@ pub step-keeps-totals : (set : Set) (r : River) (given : Conditions) (t : Total)
 unfolding stepAnswer
 step-keeps-totals set r given t c h =
     by-number (λ q. cellTotal set t (q .amounts) c ≡ cellTotal set t (r .amounts) c) (stepNumber set r given) _ r
-    (λ e. step-keeps-cell set t given r c h (omega (arith, right-cells r (step-passes set r given e .0))))
+    (λ e. step-keeps-cell set t given r c h (omega (arith, river-cells r (step-passes set r given e .0))))
     (λ f. refl)
 
 call-kept : (set : Set) (call : Call) (n : ℕ) (r : River) → Sound n r

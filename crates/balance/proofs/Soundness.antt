@@ -2,28 +2,28 @@
 -- fresh river is sound, and so is a sound one with one amount changed within its bounds, or flowed or stepped where
 -- check 8 does not hold. No assumptions.
 use Prim.Native.Nat.{ℕ, _+_, _*_, _/_, _%_, _≤_, _<_}
-use mathlib.Core.Bool.{Bool, true, false, _&&_, cond}
+use mathlib.Core.Bool.{Bool, true, false, cond}
 use mathlib.Core.List.{List}
-use mathlib.Core.Path.{_≡_, refl, ap₂, _∙_}
+use mathlib.Core.Path.{_≡_, refl, _∙_}
 use native.Mathlib.Decide.{ℕ-discrete}
 use native.Mathlib.Omega.{arith}
 use lib.Arith.{digits-div, digits-mod}
 use lib.Dec.{leb, ltb, eqb}
-use lib.ListN.{getD, set, length, length-set, length-replicate, getD-replicate}
+use lib.ListN.{getD, set, length, length-set, length-replicate}
 use lib.Seq.{getD-set-same, getD-set-other}
 use lib.IntN.{ℤ, pos, natAbs}
-use borrow.Author.Tests.{le-leb, lt-ltb, not-false}
-use Rattle.numeric.specs.Check.{every}
-use Rattle.numeric.proofs.CheckLaws.{and-left, and-right, leb-within, every-at, every-all}
+use borrow.Author.Tests.{le-leb, lt-ltb}
+use Rattle.numeric.proofs.CheckLaws.{every-at, every-all}
 use Rattle.numeric.proofs.TableLaws.{tab-length, getD-tab}
 use Rattle.stoichiometry.specs.declared.Set.{Set}
 use Rattle.stoichiometry.specs.Substances.{substances}
 use Rattle.stoichiometry.specs.Rows.{processes}
 use Rattle.kinetics.specs.declared.Conditions.{Conditions}
 use Rattle.river.specs.declared.River.{River}
-use Rattle.river.specs.Rivers.{mostCells, lowestAt, highestAt, amountFits, amountsFit, carriesFit, cellsFit, riverWrong, zeroRiver}
+use Rattle.river.specs.Rivers.{mostCells, amountFits, amountsFit, carriesFit, riverWrong, zeroRiver}
 use Rattle.river.specs.Load.{withAmount}
 use Rattle.river.specs.Flow.{movedOf}
+use Rattle.river.proofs.Rivers.{river-cells, river-amounts, river-carries, river-right, zero-right}
 use Rattle.step.specs.Steps.{newCarry, steppedAmounts, steppedCarries, stepped}
 
 -- A river of n cells with places for the amounts of all cells, of which check 4 does not hold.
@@ -32,31 +32,8 @@ pub record Sound (n : ℕ) (r : River) : Type 0 where
   pub long : length (r .amounts) ≡ mostCells * substances
   pub right : riverWrong r ≡ false
 
--- The parts of check 4.
-all-fit : (r : River) → riverWrong r ≡ false
-    → (cellsFit (r .cells) ≡ true) × (amountsFit (r .cells) (r .amounts) ≡ true)
-    × (carriesFit (r .cells) (r .carries) ≡ true)
-unfolding riverWrong
-all-fit r e =
-    let cells = cellsFit (r .cells) in
-    let amounts = amountsFit (r .cells) (r .amounts) in
-    let carries = carriesFit (r .cells) (r .carries) in
-    let all = not-false (cells && amounts && carries) e in
-    let both = and-left (cells && amounts) carries all in
-    (and-left cells amounts both, and-right cells amounts both, and-right (cells && amounts) carries all)
-
-right-of : (r : River) → cellsFit (r .cells) ≡ true → amountsFit (r .cells) (r .amounts) ≡ true
-    → carriesFit (r .cells) (r .carries) ≡ true → riverWrong r ≡ false
-unfolding riverWrong
-right-of r e f g = rw (e, f, g)
-
--- It is of 1 to 8 cells.
-pub right-cells : (r : River) → riverWrong r ≡ false → (1 ≤ r .cells) × (r .cells ≤ mostCells)
-unfolding cellsFit
-right-cells r e = leb-within 1 (r .cells) mostCells (all-fit r e .0)
-
 pub sound-cells : (n : ℕ) (r : River) → Sound n r → (1 ≤ n) × (n ≤ mostCells)
-sound-cells n r s = omega (arith, s .cells, right-cells r (s .right))
+sound-cells n r s = omega (arith, s .cells, river-cells r (s .right))
 
 -- With other amounts and carries that fit it is sound again.
 pub sound-again : (n : ℕ) (r : River) → Sound n r → (amounts : List ℤ) (carries : List ℕ)
@@ -64,10 +41,10 @@ pub sound-again : (n : ℕ) (r : River) → Sound n r → (amounts : List ℤ) (
     → carriesFit (r .cells) carries ≡ true
     → Sound n (record { cells = r .cells; amounts = amounts; carries = carries })
 sound-again n r s amounts carries long e f =
-    record { cells = s .cells; long = long; right = right-of _ (all-fit r (s .right) .0) e f }
+    record { cells = s .cells; long = long; right = river-right _ (river-cells r (s .right) .0) (river-cells r (s .right) .1) e f }
 
 pub sound-carries : (n : ℕ) (r : River) → Sound n r → carriesFit (r .cells) (r .carries) ≡ true
-sound-carries n r s = all-fit r (s .right) .2
+sound-carries n r s = river-carries r (s .right)
 
 -- An amount at place k fits a river of n cells.
 abbrev fitsAt : ℕ → ℕ → ℤ → Bool
@@ -95,7 +72,7 @@ sound-amount n r sound c s x h l e =
     (length-set (r .amounts) (c * substances + s) x ∙ sound .long)
     (set-fits (r .cells) (r .amounts) (c * substances + s) x (omega (arith, sound .long))
     (rw (digits-div c l, digits-mod c l, lt-ltb c (r .cells) (omega (arith, sound .cells))) e)
-    (all-fit r (sound .right) .1))
+    (river-amounts r (sound .right)))
     (sound-carries n r sound)
 
 -- A carry after a step is a remainder, and 0 beyond the last cell.
@@ -127,27 +104,7 @@ sound-flow n r s left e =
     sound-again n r s (movedOf (r .cells) (r .amounts) left) (r .carries) (tab-length (mostCells * substances) _) e
     (sound-carries n r s)
 
--- An amount of 0 is within the bounds of every substance.
-zero-fits : every substances (λ s. amountFits s (pos 0)) ≡ true
-unfolding every amountFits lowestAt highestAt
-zero-fits = refl
-
-same : {A : Type 0} (b : Bool) (x : A) → cond b x x ≡ x
-same true x = refl
-same false x = refl
-
 -- A fresh river is sound.
 pub sound-zero : (n : ℕ) → 1 ≤ n → n ≤ mostCells → Sound n (zeroRiver n)
-unfolding cellsFit amountsFit carriesFit
 sound-zero n h l =
-    record {
-      cells = refl;
-      long = length-replicate (mostCells * substances) (pos 0);
-      right =
-          right-of (zeroRiver n) (ap₂ _&&_ (le-leb 1 n h) (le-leb n mostCells l))
-          (every-all (mostCells * substances) _
-          (λ k j. let fits = every-at substances (k % substances) _ zero-fits (omega arith) in
-          rw (getD-replicate (mostCells * substances) k (pos 0) (pos 0) j, fits) (same (ltb (k / substances) n) true)))
-          (every-all (mostCells * processes) _
-          (λ k j. rw (getD-replicate {A = ℕ} (mostCells * processes) k 0 0 j) (same (ltb (k / processes) n) true)));
-    }
+    record { cells = refl; long = length-replicate (mostCells * substances) (pos 0); right = zero-right n h l }

@@ -13,7 +13,7 @@ use lib.ListN.{getD, getD-replicate}
 use lib.Signed.{_≤ℤ_}
 use Rattle.numeric.specs.Check.{every}
 use Rattle.numeric.proofs.Bounds.{abs-zero}
-use Rattle.numeric.proofs.CheckLaws.{and-left, and-right, every-at, every-all, every-eq, every-rows, row-in, every-split}
+use Rattle.numeric.proofs.CheckLaws.{and-left, and-right, leb-within, every-at, every-all, every-eq, every-rows, row-in, every-split}
 use Rattle.stoichiometry.specs.Substances.{substances}
 use Rattle.stoichiometry.specs.Rows.{processes}
 use Rattle.river.specs.declared.River.{River}
@@ -169,10 +169,6 @@ module _ (n : ℕ) (carries : List ℕ) (most : n ≤ mostCells) where
       (every-all (136 - n * processes) (λ i. noneAt carries (n * processes + i))
       (λ i l. eq-eqb _ 0 (beyond (n * processes + i) (omega arith) (omega arith))))
 
--- A number from 1 to n, by the tests that `cellsFit` and `cellExists` make.
-pub counted : (m n : ℕ) → leb 1 m && leb m n ≡ true → (1 ≤ m) × (m ≤ n)
-counted m n e = (leb-true 1 m (and-left (leb 1 m) (leb m n) e), leb-true m n (and-right (leb 1 m) (leb m n) e))
-
 -- When check 4 does not hold.
 pub river-right : (r : River) → 1 ≤ r .cells → r .cells ≤ mostCells
     → amountsFit (r .cells) (r .amounts) ≡ true → carriesFit (r .cells) (r .carries) ≡ true → riverWrong r ≡ false
@@ -195,7 +191,7 @@ module _ (r : River) (right : riverWrong r ≡ false) where
 
   pub river-cells : (1 ≤ r .cells) × (r .cells ≤ mostCells)
   unfolding cellsFit
-  river-cells = counted (r .cells) mostCells (parts .0)
+  river-cells = leb-within 1 (r .cells) mostCells (parts .0)
 
   pub river-amounts : amountsFit (r .cells) (r .amounts) ≡ true
   river-amounts = parts .1
@@ -252,8 +248,8 @@ zero-right n l h =
 -- A cell that exists is one of the river's, and a substance that exists one of the 18.
 pub cell-bound : (r : River) (cell : ℕ) → cellExists r cell ≡ true → (1 ≤ cell) × (cell ≤ r .cells)
 unfolding cellExists
-cell-bound r cell e = counted cell (r .cells) e
+cell-bound r cell e = leb-within 1 cell (r .cells) e
 
 pub substance-bound : (substance : ℕ) → substanceExists substance ≡ true → (1 ≤ substance) × (substance ≤ substances)
 unfolding substanceExists
-substance-bound substance e = counted substance substances e
+substance-bound substance e = leb-within 1 substance substances e

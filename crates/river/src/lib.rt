@@ -147,14 +147,15 @@ pub fn river_wrong(river: River) -> bool
     }
 }
 
-// The amounts of the first n cells are in their bounds, all others are 0. All 8 cells are meant where n is above 8.
-pub fn amounts_in_bounds(n: u32, amounts: &[i64; AMOUNTS]) -> bool
-    ensures answer { λ r. ⌜ r ≡ amountsFit n (now (amounts .entry)) ⌝ }
+// The amounts of the river's cells are in their bounds, all others are 0. A number of cells above 8 is taken for 8.
+pub fn amounts_in_bounds(river: River) -> bool
+    ensures answer { λ r. ⌜ r ≡ amountsFit (river .cells) (river .amounts) ⌝ }
 {
+    let n = river.cells;
     if n as usize <= CELLS {
-        amounts_fit(n as usize, amounts)
+        amounts_fit(n as usize, &river.amounts)
     } else {
-        amounts_fit(CELLS, amounts)
+        amounts_fit(CELLS, &river.amounts)
     }
 }
 

@@ -1,11 +1,9 @@
 -- The number of a step, check by check, and its answer once the checks of what it was given are passed. No assumptions.
 use Prim.Native.Nat.{ℕ, zero, suc}
 use mathlib.Core.Bool.{Bool, true, false, not, cond}
-use mathlib.Core.List.{[], _∷_}
-use mathlib.Core.Path.{_≡_, refl, sym, ap, _∙_}
-use lib.Dec.{lit<, eqb·suc-zero}
+use mathlib.Core.Path.{_≡_, refl, ap, _∙_}
+use lib.Dec.{eqb·suc-zero}
 use Rattle.numeric.specs.Check.{firstHolding, _when_}
-use Rattle.numeric.proofs.CheckLaws.{first-zero, first-fails}
 use Rattle.stoichiometry.specs.declared.Set.{Set}
 use Rattle.stoichiometry.specs.Parameters.{fractionsWrong, figuresWrong}
 use Rattle.stoichiometry.specs.Rows.{rowsOf}
@@ -43,16 +41,6 @@ module _ (set : Set) (r : River) (given : Conditions) where
   -- Refused by 1, 2 or 3: the number of the set.
   pub set-refused : (setNumber set ≡ 0 → ⊥) → stepAnswer set r given ≡ refusedWith (setNumber set) r
   set-refused h = set-by (fractionsWrong set) (figuresWrong set) (rowsWrong set) refl refl refl h
-
-  -- The checks of a set, where its number is 0.
-  pub set-passed : setNumber set ≡ 0 → (fractionsWrong set ≡ false) × (figuresWrong set ≡ false) × (rowsWrong set ≡ false)
-  unfolding setNumber
-  set-passed e =
-      let one = first-zero 1 (fractionsWrong set) _ (lit< tt) e in
-      let after-one = first-fails 1 (fractionsWrong set) _ one in
-      let two = first-zero 2 (figuresWrong set) _ (lit< tt) (sym after-one ∙ e) in
-      let after-two = first-fails 2 (figuresWrong set) _ two in
-      (one, two, first-zero 3 (rowsWrong set) [] (lit< tt) (sym after-two ∙ sym after-one ∙ e))
 
   module _ (one : fractionsWrong set ≡ false) (two : figuresWrong set ≡ false) (three : rowsWrong set ≡ false) where
     -- Refused by 4: the river.

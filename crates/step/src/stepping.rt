@@ -37,13 +37,13 @@ pub(crate) fn stepped(
         return refused(7, river);
     }
     let amounts = applied(n, &before, &whole, entries);
-    if amounts_in_bounds(cells, &amounts) {
-        let carries = made.carries;
-        let after = River {
-            cells,
-            amounts,
-            carries,
-        };
+    let carries = made.carries;
+    let after = River {
+        cells,
+        amounts,
+        carries,
+    };
+    if amounts_in_bounds(after) {
         Changed {
             number: 0,
             river: after,

@@ -1,7 +1,10 @@
--- The number of a set (specs/Sets.antt), a law for each case: the first check that holds, or none. No assumptions.
+-- The number of a set (specs/Sets.antt), a law for each case: the first check that holds, or none; and what an accepted set has
+-- passed. No assumptions.
 use mathlib.Core.Bool.{true, false}
-use mathlib.Core.Path.{_≡_, _∙_}
-use Rattle.numeric.proofs.CheckLaws.{first-nil, first-holds, first-fails}
+use mathlib.Core.List.{[]}
+use mathlib.Core.Path.{_≡_, sym, _∙_}
+use lib.Dec.{lit<}
+use Rattle.numeric.proofs.CheckLaws.{first-nil, first-holds, first-fails, first-zero}
 use Rattle.stoichiometry.specs.declared.Set.{Set}
 use Rattle.stoichiometry.specs.Parameters.{fractionsWrong, figuresWrong}
 use Rattle.stoichiometry.specs.Sets.{rowsWrong, setNumber}
@@ -23,3 +26,14 @@ pub number-zero : (set : Set) → fractionsWrong set ≡ false → figuresWrong 
     → setNumber set ≡ 0
 unfolding setNumber
 number-zero set e f g = first-fails 1 _ _ e ∙ first-fails 2 _ _ f ∙ first-fails 3 _ _ g ∙ first-nil
+
+-- No check holds of an accepted set.
+pub accepted-passes : (set : Set) → setNumber set ≡ 0
+    → (fractionsWrong set ≡ false) × (figuresWrong set ≡ false) × (rowsWrong set ≡ false)
+unfolding setNumber
+accepted-passes set e =
+    let one = first-zero 1 (fractionsWrong set) _ (lit< tt) e in
+    let after-one = first-fails 1 (fractionsWrong set) _ one in
+    let two = first-zero 2 (figuresWrong set) _ (lit< tt) (sym after-one ∙ e) in
+    let after-two = first-fails 2 (figuresWrong set) _ two in
+    (one, two, first-zero 3 (rowsWrong set) [] (lit< tt) (sym after-two ∙ sym after-one ∙ e))

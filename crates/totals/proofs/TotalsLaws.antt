@@ -17,7 +17,7 @@ use Rattle.numeric.specs.Check.{every, allOf, Check, _when_, firstHolding}
 use Rattle.numeric.specs.Sum.{sum}
 use Rattle.numeric.specs.Table.{tab}
 use Rattle.numeric.proofs.Bounds.{fits-abs, abs-add, abs-mul-le, abs-between}
-use Rattle.numeric.proofs.CheckLaws.{every-at, allOf-at, first-nil, first-holds, first-fails, first-zero}
+use Rattle.numeric.proofs.CheckLaws.{every-at, allOf-at, first-nil, first-holds, first-fails}
 use Rattle.numeric.proofs.Machine.{kept, kept-is}
 use Rattle.numeric.proofs.SumLaws.{sum-more, added, sum-within, added-le}
 use Rattle.numeric.proofs.TableLaws.{getD-tab, AtMost, done, _also_, at-most-at}
@@ -207,11 +207,6 @@ number-split true b c rest = refl
 number-split false true c rest = refl
 number-split false false true rest = refl
 number-split false false false rest = refl
-
--- Check 1 does not hold of an accepted set.
-pub fractions-right : (set : Set) → setNumber set ≡ 0 → fractionsWrong set ≡ false
-unfolding setNumber
-fractions-right set e = first-zero 1 (fractionsWrong set) _ (lit< tt) e
 
 module _ (set : Set) (r : River) (cell : ℕ) where
   abbrev others : List Check

@@ -11,12 +11,13 @@ use lib.Signed.{_≤ℤ_}
 use mir.Facts.{toZ-ofZ}
 use Rattle.numeric.specs.Check.{firstHolding}
 use Rattle.numeric.proofs.Bounds.{fits-abs}
+use Rattle.numeric.proofs.CheckLaws.{leb-within}
 use Rattle.numeric.proofs.Machine.{kept}
 use Rattle.river.specs.Rivers.{amountAt, riverWrong}
 use Rattle.river.specs.Load.{cellExists}
 use Rattle.river.specs.Cells.{letterOf, letterNumber, letterAnswer}
 use Rattle.river.proofs.Bounds.{netAt}
-use Rattle.river.proofs.Rivers.{counted, river-cells, level-amount}
+use Rattle.river.proofs.Rivers.{river-cells, level-amount}
 use Rattle.river.proofs.letter_of.Statement.{statement}
 use Rattle.river.proofs.letter_of.Tie as tie
 
@@ -40,7 +41,7 @@ right c = sym (c .before .river-wrong .ensures) ∙ c .if1 .left
 
 -- Past check 5 too: the cell is one of at most 8.
 exists : (c : tie.Then2) → (1 ≤ start c .args .cell) × (start c .args .cell ≤ start c .args .t1 .cells)
-exists c = counted (start c .args .cell) (start c .args .t1 .cells) (sym (c .before .both .ensures) ∙ c .if2 .taken)
+exists c = leb-within 1 (start c .args .cell) (start c .args .t1 .cells) (sym (c .before .both .ensures) ∙ c .if2 .taken)
 
 at-most : (c : tie.Then2) → start c .args .t1 .cells ≤ 8
 at-most c = river-cells (start c .args .t1) (right (c .before .before)) .1

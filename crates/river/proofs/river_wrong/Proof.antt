@@ -3,8 +3,8 @@ use Prim.Native.Nat.{_≤_}
 use mathlib.Core.Path.{sym, ap, _∙_}
 use mathlib.Core.Bool.{not}
 use borrow.Author.Needs.{needs}
+use Rattle.numeric.proofs.CheckLaws.{leb-within}
 use Rattle.river.specs.Rivers.{cellsFit, riverWrong}
-use Rattle.river.proofs.Rivers.{counted}
 use Rattle.river.proofs.river_wrong.Statement.{statement}
 use Rattle.river.proofs.river_wrong.Tie as tie
 
@@ -17,7 +17,7 @@ cast-amounts-fit c = search needs
 -- The number of cells fits.
 at-most : (c : tie.Then1) → c .before .before .args .t1 .cells ≤ 8
 unfolding cellsFit
-at-most c = counted (c .before .before .args .t1 .cells) 8 (sym (c .before .cells-fit .ensures) ∙ c .if1 .taken) .1
+at-most c = leb-within 1 (c .before .before .args .t1 .cells) 8 (sym (c .before .cells-fit .ensures) ∙ c .if1 .taken) .1
 
 amounts-fit-requires : tie.Need-amounts-fit-requires
 amounts-fit-requires c κs = at-most (c .before .before)

@@ -5,9 +5,10 @@ use mathlib.Core.Path.{_≡_, sym, ap, _∙_}
 use borrow.Author.Needs.{needs}
 use Rattle.stoichiometry.specs.Parameters.{fractionsWrong, figuresWrong}
 use Rattle.stoichiometry.specs.Sets.{rowsWrong, setNumber}
+use Rattle.stoichiometry.proofs.SetNumber.{accepted-passes}
 use Rattle.river.specs.Rivers.{riverWrong}
 use Rattle.step.specs.Stepping.{refusedWith}
-use Rattle.step.proofs.StepNumber.{rows-number, rows-entries, set-refused, set-passed, river-refused, conditions-refused, given-passed}
+use Rattle.step.proofs.StepNumber.{rows-number, rows-entries, set-refused, river-refused, conditions-refused, given-passed}
 use Rattle.step.proofs.step_river.Statement.{statement}
 use Rattle.step.proofs.step_river.Tie as tie
 
@@ -16,7 +17,7 @@ number-zero : (c : tie.Else1) → setNumber (c .before .before .before .args .se
 number-zero c = let made = c .before .before in sym (rows-number _ _ (made .rows-of .ensures)) ∙ c .if1 .left
 
 passed : (c : tie.Else1) → let set = c .before .before .before .args .set in (fractionsWrong set ≡ false) × (figuresWrong set ≡ false) × (rowsWrong set ≡ false)
-passed c = let start = c .before .before .before in set-passed (start .args .set) (start .args .river) (start .args .given) (number-zero c)
+passed c = let start = c .before .before .before in accepted-passes (start .args .set) (number-zero c)
 
 -- The river was accepted.
 river-right : (c : tie.Else2) → riverWrong (c .before .before .before .before .before .args .river) ≡ false

@@ -8,11 +8,12 @@ use borrow.Author.Needs.{needs}
 use lib.Dec.{leb}
 use Rattle.numeric.proofs.CheckLaws.{and-left, and-right}
 use Rattle.stoichiometry.specs.Sets.{setNumber}
+use Rattle.stoichiometry.proofs.SetNumber.{accepted-passes}
 use Rattle.river.specs.Rivers.{riverWrong}
 use Rattle.river.specs.Load.{cellExists}
 use Rattle.totals.specs.TotalsCode.{refusedTotals}
 use Rattle.river.proofs.Rivers.{river-cells}
-use Rattle.totals.proofs.TotalsLaws.{cell-addable, fractions-right, totals-set-refused, totals-river-refused, totals-cell-refused, totals-accepted}
+use Rattle.totals.proofs.TotalsLaws.{cell-addable, totals-set-refused, totals-river-refused, totals-cell-refused, totals-accepted}
 use Rattle.totals.proofs.totals_of.Statement.{statement}
 use Rattle.totals.proofs.totals_of.Tie as tie
 
@@ -88,7 +89,7 @@ totals-at-requires c κs =
     let at-cell = c .before .before in
     let passed = at-cell .before .before in
     let a = start at-cell .args in
-    let set-right = fractions-right (a .set) (accepted (passed .before .before)) in
+    let set-right = accepted-passes (a .set) (accepted (passed .before .before)) .0 in
     let most = river-cells (a .t2) (right passed) .1 in
     let below : a .cell - 1 < a .t2 .cells = omega (arith, inside at-cell .0, inside at-cell .1) in
     (omega (arith, below, most), cell-addable (a .set) (a .t2) set-right (right passed) (a .cell - 1) below)

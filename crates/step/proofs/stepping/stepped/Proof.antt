@@ -68,7 +68,7 @@ refused-requires-2 c κs = search needs
 returns-2 : tie.Need-returns-2
 unfolding steppedAnswer
 returns-2 c =
-    let tested = c .before .before in
+    let tested = c .before in
     let done = tested .before .before in
     let left = done .before .before .before in
     let counted = left .before in
@@ -81,7 +81,7 @@ returns-2 c =
     let seven = made-number set given r (ready .river) (made .batches-of .result) (made .batches-of .ensures) _ (counted .too-many .ensures) ∙ left .if1 .left in
     let amounts = made-amounts set given r (ready .river) (made .batches-of .result) (made .batches-of .ensures) _ _ (ready .rows) (done .applied .ensures) in
     let carries = made-carries set given r (ready .river) (made .batches-of .result) (made .batches-of .ensures) in
-    let fit = sym (tested .amounts-in-bounds .ensures ∙ ap (amountsFit (r .cells)) amounts) ∙ c .before .if2 .taken in
+    let fit = sym (tested .amounts-in-bounds .ensures ∙ ap (amountsFit (r .cells)) amounts) ∙ c .if2 .taken in
     rw (seven, fit) (λ i. record { number = 0; river = record { cells = r .cells; amounts = amounts i; carries = carries i } })
 
 returns-3 : tie.Need-returns-3
