@@ -34,6 +34,5 @@ pub fn step_river(set: Set, river: River, given: Conditions) -> Changed
     if conditions_wrong(given) {
         return refused(6, river);
     }
-    let entries = rows.entries;
-    stepped(set, river, given, &entries)
+    stepped(set, river, given, &rows.entries)
 }

@@ -29,14 +29,12 @@ pub(crate) fn stepped(
 {
     let cells = river.cells;
     let n = cells as usize;
-    let before = river.amounts;
     let carries = river.carries;
-    let made = batches_of(set, given, n, entries, &before, &carries);
-    let whole = made.whole;
-    if too_many(&whole) {
+    let made = batches_of(set, given, n, entries, &river.amounts, &carries);
+    if too_many(&made.whole) {
         return refused(7, river);
     }
-    let amounts = applied(n, &before, &whole, entries);
+    let amounts = applied(n, &river.amounts, &made.whole, entries);
     let carries = made.carries;
     let after = River {
         cells,

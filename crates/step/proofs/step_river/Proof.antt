@@ -13,14 +13,14 @@ use Rattle.step.proofs.step_river.Statement.{statement}
 use Rattle.step.proofs.step_river.Tie as tie
 
 -- The set was accepted.
-number-zero : (c : tie.Else1) → setNumber (c .before .before .before .args .set) ≡ 0
-number-zero c = let made = c .before .before in sym (rows-number _ _ (made .rows-of .ensures)) ∙ c .if1 .left
+number-zero : (c : tie.Else1) → setNumber (c .before .before .args .set) ≡ 0
+number-zero c = let made = c .before in sym (rows-number _ _ (made .rows-of .ensures)) ∙ c .if1 .left
 
-passed : (c : tie.Else1) → let set = c .before .before .before .args .set in (fractionsWrong set ≡ false) × (figuresWrong set ≡ false) × (rowsWrong set ≡ false)
-passed c = let start = c .before .before .before in accepted-passes (start .args .set) (number-zero c)
+passed : (c : tie.Else1) → let set = c .before .before .args .set in (fractionsWrong set ≡ false) × (figuresWrong set ≡ false) × (rowsWrong set ≡ false)
+passed c = let start = c .before .before in accepted-passes (start .args .set) (number-zero c)
 
 -- The river was accepted.
-river-right : (c : tie.Else2) → riverWrong (c .before .before .before .before .before .args .river) ≡ false
+river-right : (c : tie.Else2) → riverWrong (c .before .before .before .before .args .river) ≡ false
 river-right c = sym (c .before .river-wrong .ensures) ∙ c .if2 .left
 
 rows-of-requires : tie.Need-rows-of-requires
@@ -32,7 +32,7 @@ refused-requires c κs = search needs
 returns : tie.Need-returns
 returns c =
     let tested = c .before in
-    let made = tested .before .before in
+    let made = tested .before in
     let start = made .before in
     let set = start .args .set in
     let number = rows-number set _ (made .rows-of .ensures) in
@@ -49,7 +49,7 @@ returns-2 : tie.Need-returns-2
 returns-2 c =
     let tested = c .before in
     let left = tested .before .before in
-    let start = left .before .before .before in
+    let start = left .before .before in
     let set = start .args .set in
     let right = passed left in
     let holds = sym (tested .before .river-wrong .ensures) ∙ tested .if2 .taken in
@@ -66,7 +66,7 @@ returns-3 c =
     let tested = c .before in
     let known = tested .before .before in
     let left = known .before .before in
-    let start = left .before .before .before in
+    let start = left .before .before in
     let set = start .args .set in
     let right = passed left in
     let holds = sym (tested .before .conditions-wrong .ensures) ∙ tested .if3 .taken in
@@ -77,7 +77,7 @@ stepped-requires c κs =
     let last = c .before .before in
     let known = last .before .before in
     let left = known .before .before in
-    let made = left .before .before in
+    let made = left .before in
     let set = made .before .args .set in
     let right = passed left in
     record {
@@ -93,7 +93,7 @@ returns-4 c =
     let last = c .before .before .before in
     let known = last .before .before in
     let left = known .before .before in
-    let start = left .before .before .before in
+    let start = left .before .before in
     let set = start .args .set in
     let right = passed left in
     let fit = sym (last .before .conditions-wrong .ensures) ∙ last .if3 .left in

@@ -20,7 +20,7 @@ batches-of-requires c κs =
     let ready = start .pre in
     let set = start .args .set in
     let given = start .args .given in
-    let r = start .args .river in
+    let r = start .args .t2 in
     rw (ready .rows) (going set given r (ready .river) (ready .figures) (ready .conditions))
 
 too-many-requires : tie.Need-too-many-requires
@@ -38,20 +38,20 @@ returns c =
     let ready = start .pre in
     let set = start .args .set in
     let given = start .args .given in
-    let r = start .args .river in
+    let r = start .args .t2 in
     let seven = made-number set given r (ready .river) (made .batches-of .result) (made .batches-of .ensures) _ (tested .too-many .ensures) ∙ c .before .if1 .taken in
     rw seven (c .refused .ensures)
 
 applied-requires : tie.Need-applied-requires
 applied-requires c κs =
-    let left = c .before .before in
+    let left = c .before .before .before .before in
     let tested = left .before in
     let made = tested .before .before .before in
     let start = made .before .before .before .before .before in
     let ready = start .pre in
     let set = start .args .set in
     let given = start .args .given in
-    let r = start .args .river in
+    let r = start .args .t2 in
     let few = sym (tested .too-many .ensures) ∙ left .if1 .left in (
       river-cells r (ready .river) .1,
       amounts-small set given r (ready .river),
@@ -70,14 +70,14 @@ unfolding steppedAnswer
 returns-2 c =
     let tested = c .before in
     let done = tested .before .before in
-    let left = done .before .before .before in
+    let left = done .before .before .before .before .before in
     let counted = left .before in
     let made = counted .before .before .before in
     let start = made .before .before .before .before .before in
     let ready = start .pre in
     let set = start .args .set in
     let given = start .args .given in
-    let r = start .args .river in
+    let r = start .args .t2 in
     let seven = made-number set given r (ready .river) (made .batches-of .result) (made .batches-of .ensures) _ (counted .too-many .ensures) ∙ left .if1 .left in
     let amounts = made-amounts set given r (ready .river) (made .batches-of .result) (made .batches-of .ensures) _ _ (ready .rows) (done .applied .ensures) in
     let carries = made-carries set given r (ready .river) (made .batches-of .result) (made .batches-of .ensures) in
@@ -89,14 +89,14 @@ unfolding steppedAnswer
 returns-3 c =
     let tested = c .before .before in
     let done = tested .before .before in
-    let left = done .before .before .before in
+    let left = done .before .before .before .before .before in
     let counted = left .before in
     let made = counted .before .before .before in
     let start = made .before .before .before .before .before in
     let ready = start .pre in
     let set = start .args .set in
     let given = start .args .given in
-    let r = start .args .river in
+    let r = start .args .t2 in
     let seven = made-number set given r (ready .river) (made .batches-of .result) (made .batches-of .ensures) _ (counted .too-many .ensures) ∙ left .if1 .left in
     let amounts = made-amounts set given r (ready .river) (made .batches-of .result) (made .batches-of .ensures) _ _ (ready .rows) (done .applied .ensures) in
     let fit = sym (tested .amounts-in-bounds .ensures ∙ ap (amountsFit (r .cells)) amounts) ∙ c .before .if2 .left in
