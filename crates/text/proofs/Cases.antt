@@ -1,0 +1,94 @@
+-- Worked cases, each by computation: numbers in columns, texts that are read or refused, writes. No assumptions.
+use Prim.Native.Nat.{ℕ}
+use mathlib.Core.List.{List, [], _∷_, _++_, map}
+use mathlib.Core.Path.{_≡_, refl}
+use lib.IntN.{pos, negsuc}
+use lib.ListN.{replicate}
+use Rattle.text.specs.declared.Number.{Number}
+use Rattle.text.specs.Writes.{put, putWithin, copied}
+use Rattle.text.specs.Decimals.{glyph, nextMark, columns, plain, decimal}
+use Rattle.text.specs.Blocks.{blocks}
+use Rattle.text.specs.Reading.{isDigit, digit, other, next, runOn, accepted, none, signed, within, finish, parse}
+
+decimal-zero : decimal 20 (pos 0) ≡ replicate 19 32 ++ (48 ∷ [])
+unfolding glyph nextMark columns plain decimal
+decimal-zero = refl
+
+decimal-minus-one : decimal 20 (negsuc 0) ≡ replicate 18 32 ++ (45 ∷ 49 ∷ [])
+unfolding glyph nextMark columns plain decimal
+decimal-minus-one = refl
+
+-- 10^18 and −10^18.
+decimal-most : decimal 20 (pos 1_000_000_000_000_000_000) ≡ 32 ∷ 49 ∷ replicate 18 48
+unfolding glyph nextMark columns plain decimal
+decimal-most = refl
+
+decimal-minus-most : decimal 20 (negsuc 999_999_999_999_999_999) ≡ 45 ∷ 49 ∷ replicate 18 48
+unfolding glyph nextMark columns plain decimal
+decimal-minus-most = refl
+
+-- Fewer columns than digits: the last digits, and no minus.
+decimal-narrow : decimal 2 (negsuc 122) ≡ 50 ∷ 51 ∷ []
+unfolding glyph nextMark columns plain decimal
+decimal-narrow = refl
+
+-- 0, 7, 42 and 105 in two columns.
+two-columns : map (plain 2 32) (0 ∷ 7 ∷ 42 ∷ 105 ∷ [])
+    ≡ (32 ∷ 48 ∷ []) ∷ (32 ∷ 55 ∷ []) ∷ (52 ∷ 50 ∷ []) ∷ (48 ∷ 53 ∷ []) ∷ []
+unfolding glyph nextMark columns plain
+two-columns = refl
+
+-- From −99 to 99.
+abbrev small : List ℕ → Number
+small = parse (negsuc 98) (pos 99)
+
+-- "-0", "00", "+1".
+small-refused : map small ((45 ∷ 48 ∷ []) ∷ (48 ∷ 48 ∷ []) ∷ (43 ∷ 49 ∷ []) ∷ []) ≡ replicate 3 none
+unfolding isDigit digit other next runOn signed within finish parse
+small-refused = refl
+
+-- "- 1", " 1 ", "--1".
+small-scattered : map small ((45 ∷ 32 ∷ 49 ∷ []) ∷ (32 ∷ 49 ∷ 32 ∷ []) ∷ (45 ∷ 45 ∷ 49 ∷ []) ∷ []) ≡ replicate 3 none
+unfolding isDigit digit other next runOn signed within finish parse
+small-scattered = refl
+
+-- No digit: nothing, a blank, a minus.
+small-empty : map small ([] ∷ (32 ∷ []) ∷ (45 ∷ []) ∷ []) ≡ replicate 3 none
+unfolding isDigit digit other next runOn signed within finish parse
+small-empty = refl
+
+-- " -7", " 0" and "99".
+small-read : map small ((32 ∷ 45 ∷ 55 ∷ []) ∷ (32 ∷ 48 ∷ []) ∷ (57 ∷ 57 ∷ []) ∷ [])
+    ≡ accepted (negsuc 6) ∷ accepted (pos 0) ∷ accepted (pos 99) ∷ []
+unfolding isDigit digit other next runOn signed within finish parse
+small-read = refl
+
+-- "100" and "-100" are outside the limits, and a nought where 1 is the lowest.
+small-outside : map small ((49 ∷ 48 ∷ 48 ∷ []) ∷ (45 ∷ 49 ∷ 48 ∷ 48 ∷ []) ∷ []) ≡ replicate 2 none
+unfolding isDigit digit other next runOn signed within finish parse
+small-outside = refl
+
+nought-outside : parse (pos 1) (pos 9) (48 ∷ []) ≡ none
+unfolding isDigit digit other next runOn signed within finish parse
+nought-outside = refl
+
+-- The bytes beside a write stay, and a write past the end changes nothing.
+write-inside : putWithin (1 ∷ 2 ∷ 3 ∷ 4 ∷ []) 1 (7 ∷ 8 ∷ []) ≡ 1 ∷ 7 ∷ 8 ∷ 4 ∷ []
+unfolding put putWithin
+write-inside = refl
+
+write-past-end : putWithin (1 ∷ 2 ∷ 3 ∷ 4 ∷ []) 3 (7 ∷ 8 ∷ []) ≡ 1 ∷ 2 ∷ 3 ∷ 4 ∷ []
+unfolding put putWithin
+write-past-end = refl
+
+copy-two : copied (7 ∷ 8 ∷ 9 ∷ []) 2 (1 ∷ 2 ∷ 3 ∷ []) ≡ 7 ∷ 8 ∷ 3 ∷ []
+unfolding put copied
+copy-two = refl
+
+copy-too-many : copied (7 ∷ 8 ∷ []) 3 (1 ∷ 2 ∷ 3 ∷ []) ≡ 1 ∷ 2 ∷ 3 ∷ []
+unfolding put copied
+copy-too-many = refl
+
+run-of-blocks : blocks 3 (λ (i : ℕ). i ∷ 10 ∷ []) ≡ 0 ∷ 10 ∷ 1 ∷ 10 ∷ 2 ∷ 10 ∷ []
+unfolding blocks
+run-of-blocks = refl

@@ -1,0 +1,9 @@
+-- Laws by subject: writes; decimals in columns and their writer's loops; the size of a signed number; blocks; the
+-- reader, its loops; worked cases.
+pub mod WriteLaws
+pub mod DecimalLaws
+pub mod Magnitudes
+pub mod BlockLaws
+pub mod ReadingLaws
+pub mod ReadingLoop
+pub mod Cases

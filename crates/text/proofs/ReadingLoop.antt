@@ -1,0 +1,201 @@
+-- What the reading functions do at each byte: the blanks, the mark, a nought, the digits. `stuck` is a return at a
+-- byte that no number has there, `ended` the end of the text; `Turn` is the invariant of the loop over the digits,
+-- with a law for its start, a turn and each exit. No assumptions.
+use Prim.Native.Nat.{ℕ, zero, suc, _+_, _-_, _*_, _≤_, _<_}
+use mathlib.Core.Bool.{Bool, true, false}
+use mathlib.Core.List.{List}
+use mathlib.Core.Path.{_≡_, refl, sym, ap, _∙_}
+use native.Mathlib.Numerals.{add-one}
+use native.Mathlib.Omega.{arith}
+use borrow.Author.Tests.{lt-ltb, le-ltb, lt-leb, ne-eqb, eq-eqb, eqb-true, eqb-false}
+use lib.Dec.{eqb}
+use lib.IntN.{ℤ, pos}
+use lib.ListN.{length, take, drop, getD, take-append-drop}
+use lib.Seq.{take-suc, take-all}
+use Rattle.text.specs.Reading.{Seen, cols, nought, bad, most, isDigit, digit, other, next, runOn, start, none, signed, within, finish, parse}
+use Rattle.text.specs.Stages.{Blanks, Ready}
+use Rattle.text.proofs.ReadingLaws.{run-append, run-snoc, run-bad, is-digit, next-digit}
+
+pub run-turn : (t : List ℕ) (i : ℕ) (s : Seen) → i < length t → runOn start (take i t) ≡ s
+    → runOn start (take (i + 1) t) ≡ next s (getD t i 0)
+run-turn t i s h e =
+    ap (λ (k : ℕ). runOn start (take k t)) (add-one i)
+    ∙ ap (runOn start) (take-suc t i 0 h)
+    ∙ run-snoc start (take i t) (getD t i 0)
+    ∙ ap (λ (x : Seen). next x (getD t i 0)) e
+
+-- After a byte that no number has there, there is none.
+stuck : (lowest highest : ℤ) (t : List ℕ) (i : ℕ) (s : Seen) → i < length t → runOn start (take i t) ≡ s
+    → next s (getD t i 0) ≡ bad → parse lowest highest t ≡ none
+unfolding parse finish
+stuck lowest highest t i s h e b =
+    ap (finish lowest highest)
+    (ap (runOn start) (sym (take-append-drop (i + 1) t))
+    ∙ run-append start (take (i + 1) t) (drop (i + 1) t)
+    ∙ ap (λ (x : Seen). runOn x (drop (i + 1) t)) (run-turn t i s h e ∙ b)
+    ∙ run-bad (drop (i + 1) t))
+
+-- After the last byte.
+ended : (lowest highest : ℤ) (t : List ℕ) (i : ℕ) (s : Seen) → length t ≤ i → runOn start (take i t) ≡ s
+    → parse lowest highest t ≡ finish lowest highest s
+unfolding parse
+ended lowest highest t i s h e = ap (finish lowest highest) (ap (runOn start) (sym (take-all i t h)) ∙ e)
+
+pub not-digit-low : (b : ℕ) → b < 48 → isDigit b ≡ false
+unfolding isDigit
+not-digit-low b h = rw (lt-ltb b 48 h) refl
+
+pub not-digit-high : (b : ℕ) → 57 < b → isDigit b ≡ false
+unfolding isDigit
+not-digit-high b h = rw (le-ltb b 48 (omega arith), le-ltb b 58 (omega arith)) refl
+
+-- What each byte leads to.
+other-late : (m r b : ℕ) → (r ≡ 0 → ⊥) → other m r b ≡ bad
+unfolding other
+other-late m r b h = rw (ne-eqb r 0 h) refl
+
+next-other : (m r b : ℕ) → isDigit b ≡ false → next (cols m r) b ≡ other m r b
+unfolding next
+next-other m r b h = rw h refl
+
+next-blank : next (cols 32 0) 32 ≡ cols 32 0
+unfolding next
+next-blank = refl
+
+next-minus : next (cols 32 0) 45 ≡ cols 45 0
+unfolding next
+next-minus = refl
+
+other-minus : (b : ℕ) → other 45 0 b ≡ bad
+unfolding other
+other-minus b = refl
+
+other-mark : (b : ℕ) → (b ≡ 32 → ⊥) → (b ≡ 45 → ⊥) → other 32 0 b ≡ bad
+unfolding other
+other-mark b h k = rw (ne-eqb b 32 h, ne-eqb b 45 k) refl
+
+next-nought : next (cols 32 0) 48 ≡ nought
+unfolding next
+next-nought = refl
+
+after-nought : (b : ℕ) → next nought b ≡ bad
+unfolding next
+after-nought b = refl
+
+next-minus-nought : (m : ℕ) → (m ≡ 32 → ⊥) → next (cols m 0) 48 ≡ bad
+unfolding next digit
+next-minus-nought m h = rw (ne-eqb m 32 h) refl
+
+next-full : (m r b : ℕ) → 48 ≤ b → b ≤ 57 → most < r → next (cols m r) b ≡ bad
+unfolding next digit
+next-full m r b h k l = rw (is-digit-of, ne-eqb (r + (b - 48)) 0 (λ e. omega arith), lt-leb r most l) refl
+  where
+    is-digit-of : isDigit b ≡ true
+    is-digit-of = let e : 48 + (b - 48) ≡ b = omega arith in ap isDigit (sym e) ∙ is-digit (b - 48) (omega arith)
+
+next-more : (m r b : ℕ) → 48 ≤ b → b ≤ 57 → r ≤ most → (r ≡ 0 → b ≡ 48 → ⊥)
+    → next (cols m r) b ≡ cols m (r * 10 + (b - 48))
+next-more m r b h k l q =
+    let e : 48 + (b - 48) ≡ b = omega arith in
+    ap (next (cols m r)) (sym e) ∙ next-digit m r (b - 48) (omega arith) (λ z. q (omega arith) (omega arith)) l
+
+-- The loop over the blanks, and what comes after it.
+pub blanks-start : (t : List ℕ) → runOn start (take 0 t) ≡ cols 32 0
+unfolding runOn
+blanks-start t = refl
+
+pub blanks-turn : (t : List ℕ) (i : ℕ) → i < length t → getD t i 0 ≡ 32 → runOn start (take i t) ≡ cols 32 0
+    → runOn start (take (i + 1) t) ≡ cols 32 0
+blanks-turn t i l e h = run-turn t i (cols 32 0) l h ∙ ap (next (cols 32 0)) e ∙ next-blank
+
+pub ready-minus : (t : List ℕ) (i : ℕ) → Blanks t i → i < length t → getD t i 0 ≡ 45 → Ready t (i + 1) 45
+ready-minus t i h l e =
+    record {
+      within = omega arith;
+      seen = run-turn t i (cols 32 0) l (h .seen) ∙ ap (next (cols 32 0)) e ∙ next-minus;
+      stop = λ k. other-minus (getD t (i + 1) 0);
+    }
+
+pub ready-plain : (t : List ℕ) (i : ℕ) → Blanks t i → (i < length t → getD t i 0 ≡ 45 → ⊥) → Ready t i 32
+ready-plain t i h k =
+    record { within = h .within; seen = h .seen; stop = λ l. other-mark (getD t i 0) (h .stop l) (k l) }
+
+-- The exits before the first digit.
+module _ (lowest highest : ℤ) (t : List ℕ) (i m : ℕ) (h : Ready t i m) where
+  pub ready-none : length t ≤ i → parse lowest highest t ≡ none
+  unfolding finish
+  ready-none l = ended lowest highest t i (cols m 0) l (h .seen)
+
+  pub ready-zeros : i + 1 < length t → getD t i 0 ≡ 48 → parse lowest highest t ≡ none
+  ready-zeros l e = at (eqb m 32) refl
+    where
+      seen : runOn start (take (i + 1) t) ≡ next (cols m 0) 48
+      seen = run-turn t i (cols m 0) (omega arith) (h .seen) ∙ ap (next (cols m 0)) e
+
+      at : (b : Bool) → eqb m 32 ≡ b → parse lowest highest t ≡ none
+      at true q =
+          stuck lowest highest t (i + 1) nought l
+          (seen ∙ ap (λ (x : ℕ). next (cols x 0) 48) (eqb-true m 32 q) ∙ next-nought)
+          (after-nought (getD t (i + 1) 0))
+      at false q =
+          stuck lowest highest t i (cols m 0) (omega arith) (h .seen)
+          (ap (next (cols m 0)) e ∙ next-minus-nought m (eqb-false m 32 q))
+
+  pub ready-nought : i < length t → length t ≤ i + 1 → getD t i 0 ≡ 48 → m ≡ 32
+      → parse lowest highest t ≡ within lowest highest (pos 0)
+  unfolding finish
+  ready-nought l k e q =
+      ended lowest highest t (i + 1) nought k
+      (run-turn t i (cols m 0) l (h .seen)
+      ∙ ap (next (cols m 0)) e
+      ∙ ap (λ (x : ℕ). next (cols x 0) 48) q
+      ∙ next-nought)
+
+  pub ready-minus-nought : i < length t → getD t i 0 ≡ 48 → (m ≡ 32 → ⊥) → parse lowest highest t ≡ none
+  ready-minus-nought l e q =
+      stuck lowest highest t i (cols m 0) l (h .seen) (ap (next (cols m 0)) e ∙ next-minus-nought m q)
+
+-- The loop over the digits: v is the number of those before k.
+pub record Turn (t : List ℕ) (m v k : ℕ) : Type 0 where
+  pub within : k ≤ length t
+  pub small : v ≤ 1_000_000_000_000_000_009
+  pub seen : runOn start (take k t) ≡ cols m v
+  pub stop : v ≡ 0 → k < length t → other m 0 (getD t k 0) ≡ bad
+  pub first : v ≡ 0 → k < length t → getD t k 0 ≡ 48 → ⊥
+
+pub turn-start : (t : List ℕ) (i m : ℕ) → Ready t i m → (getD t i 0 ≡ 48 → ⊥) → Turn t m 0 i
+turn-start t i m h k =
+    record { within = h .within; small = omega arith; seen = h .seen; stop = λ e. h .stop; first = λ e l. k }
+
+module _ (lowest highest : ℤ) (t : List ℕ) (m v k : ℕ) (h : Turn t m v k) where
+  turn-other : k < length t → other m v (getD t k 0) ≡ bad
+  turn-other l = at v refl
+    where
+      at : (x : ℕ) → v ≡ x → other m v (getD t k 0) ≡ bad
+      at zero e = ap (λ (y : ℕ). other m y (getD t k 0)) e ∙ h .stop e l
+      at (suc x) e = other-late m v (getD t k 0) (λ q. omega arith)
+
+  pub turn-not : k < length t → isDigit (getD t k 0) ≡ false → parse lowest highest t ≡ none
+  turn-not l e = stuck lowest highest t k (cols m v) l (h .seen) (next-other m v (getD t k 0) e ∙ turn-other l)
+
+  pub turn-full : k < length t → 48 ≤ getD t k 0 → getD t k 0 ≤ 57 → most < v → parse lowest highest t ≡ none
+  turn-full l a b q = stuck lowest highest t k (cols m v) l (h .seen) (next-full m v (getD t k 0) a b q)
+
+  pub turn-more : k < length t → 48 ≤ getD t k 0 → getD t k 0 ≤ 57 → v ≤ most
+      → Turn t m (v * 10 + (getD t k 0 - 48)) (k + 1)
+  turn-more l a b q =
+      record {
+        within = omega arith;
+        small = omega arith;
+        seen = run-turn t k (cols m v) l (h .seen) ∙ next-more m v (getD t k 0) a b q (λ e. h .first e l);
+        stop = λ e r. absurd (h .first (omega arith) l (omega arith));
+        first = λ e r. absurd (h .first (omega arith) l (omega arith));
+      }
+
+  pub turn-none : length t ≤ k → v ≡ 0 → parse lowest highest t ≡ none
+  unfolding finish
+  turn-none l e = ended lowest highest t k (cols m v) l (h .seen) ∙ rw (eq-eqb v 0 e) refl
+
+  pub turn-end : length t ≤ k → (v ≡ 0 → ⊥) → parse lowest highest t ≡ within lowest highest (signed m v)
+  unfolding finish
+  turn-end l e = ended lowest highest t k (cols m v) l (h .seen) ∙ rw (ne-eqb v 0 e) refl

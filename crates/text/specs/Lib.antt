@@ -1,0 +1,5 @@
+pub mod Writes
+pub mod Decimals
+pub mod Blocks
+pub mod Reading
+pub mod Stages

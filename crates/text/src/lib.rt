@@ -1,0 +1,81 @@
+// Numbers in columns, read strictly and written right-justified, and bytes copied; for any width and any count. Every
+// call answers for every input; a write that does not fit changes nothing. What each call means: specs/.
+ghost use mathlib.Core.Path.{_≡_};
+ghost use Rattle.text.specs.Writes.{putWithin, copied};
+ghost use Rattle.text.specs.Decimals.{plain, decimal};
+ghost use Rattle.text.specs.Reading.{parse};
+use crate::reading::blanks;
+use crate::reading::number_after;
+use crate::writing::glyph;
+use crate::writing::magnitude;
+use crate::writing::mark_of;
+use crate::writing::write_plain;
+
+mod reading;
+mod writing;
+
+// A number that was read, and whether there was one; the value is 0 where there was none.
+pub struct Number {
+    pub ok: bool,
+    pub value: i64,
+}
+
+// The number that the columns are the text of, if there is one from `lowest` to `highest`.
+pub fn number_of(columns: &[u8], lowest: i64, highest: i64) -> Number
+    ensures answer { λ r. ⌜ r ≡ parse lowest highest (now (columns .entry)) ⌝ }
+{
+    let start = blanks(columns);
+    if start < columns.len() {
+        if columns[start] == b'-' {
+            return number_after(columns, start + 1, b'-', lowest, highest);
+        }
+    }
+    number_after(columns, start, b' ', lowest, highest)
+}
+
+// The value in `width` columns from `at` on, where they are all there.
+pub fn write_decimal(out: &mut [u8], at: usize, width: usize, value: i64)
+    ensures out { λ _. ⌜ now (out .exit) ≡ putWithin (now (out .entry)) at (decimal width value) ⌝ }
+{
+    if out.len() < at {
+        return;
+    }
+    if out.len() - at < width {
+        return;
+    }
+    if width > 0 {
+        write_plain(out, at, width, mark_of(value), magnitude(value));
+    }
+}
+
+// n in two columns from `at` on, where both are there.
+pub fn write_two(out: &mut [u8], at: usize, n: u32)
+    ensures out { λ _. ⌜ now (out .exit) ≡ putWithin (now (out .entry)) at (plain 2 32 n) ⌝ }
+{
+    if out.len() < at {
+        return;
+    }
+    if out.len() - at < 2 {
+        return;
+    }
+    let second = at + 1;
+    out[at] = glyph((n / 10) as u64, b' ');
+    out[second] = b'0' + (n % 10) as u8;
+}
+
+// The first `count` bytes of `to` become those of `from`, where both have as many.
+pub fn copy_bytes(from: &[u8], count: usize, to: &mut [u8])
+    ensures to { λ _. ⌜ now (to .exit) ≡ copied (now (from .entry)) count (now (to .entry)) ⌝ }
+{
+    if from.len() < count {
+        return;
+    }
+    if to.len() < count {
+        return;
+    }
+    let mut i = 0;
+    while i < count {
+        to[i] = from[i];
+        i += 1;
+    }
+}

@@ -1,0 +1,121 @@
+// Inner functions of the strict reader, in the order of the columns: blanks, a mark, digits. One pass over the bytes; a
+// text that is no number is refused at the byte that shows it. The public call is at the crate's root.
+ghost use mathlib.Core.Path.{_≡_};
+ghost use Prim.Native.Nat.{_≤_};
+ghost use lib.ListN.{getD};
+ghost use Rattle.text.specs.Reading.{none, signed, within, parse};
+ghost use Rattle.text.specs.Stages.{Blanks, Ready};
+use crate::Number;
+use numeric::both;
+
+// The most that one digit more may follow, so that every number read fits 64 bits.
+const MOST: u64 = 100_000_000_000_000_000;
+
+// The answer of a text that is no number.
+fn none() -> Number
+    ensures { λ r. ⌜ r ≡ none ⌝ }
+{
+    Number {
+        ok: false,
+        value: 0,
+    }
+}
+
+// The answer of a number: itself from `lowest` to `highest`, otherwise none.
+fn within(lowest: i64, highest: i64, value: i64) -> Number
+    ensures { λ r. ⌜ r ≡ within lowest highest value ⌝ }
+{
+    if both(lowest <= value, value <= highest) {
+        return Number { ok: true, value };
+    }
+    none()
+}
+
+// The digits' number with its mark.
+fn signed(mark: u8, size: u64) -> i64
+    requires { ⌜ size ≤ 1_000_000_000_000_000_009 ⌝ }
+    ensures { λ r. ⌜ r ≡ signed mark size ⌝ }
+{
+    if mark == b'-' {
+        -(size as i64)
+    } else {
+        size as i64
+    }
+}
+
+fn wide(x: u8) -> u64
+    ensures { λ r. ⌜ r ≡ x ⌝ }
+{
+    x as u64
+}
+
+// How many blanks the columns begin with.
+pub(crate) fn blanks(columns: &[u8]) -> usize
+    ensures { λ r. ⌜ Blanks (now (columns .entry)) r ⌝ }
+{
+    let mut i = 0;
+    while i < columns.len() {
+        if columns[i] == b' ' {
+            i += 1;
+        } else {
+            return i;
+        }
+    }
+    i
+}
+
+// The number of columns whose blanks and mark end at `start`, where no nought stands.
+fn digits_after(columns: &[u8], start: usize, mark: u8, lowest: i64, highest: i64) -> Number
+    requires { ⌜ Ready (now columns) start mark ⌝ }
+    requires { ⌜ (getD (now columns) start 0 ≡ 48 → ⊥) ⌝ }
+    ensures { λ r. ⌜ r ≡ parse lowest highest (now (columns .entry)) ⌝ }
+{
+    let end = columns.len();
+    let mut size: u64 = 0;
+    let mut k = start;
+    while k < end {
+        let b = columns[k];
+        if b < b'0' {
+            return none();
+        }
+        if b > b'9' {
+            return none();
+        }
+        if size > MOST {
+            return none();
+        }
+        size = size * 10 + wide(b - b'0');
+        k += 1;
+    }
+    if size == 0 {
+        return none();
+    }
+    within(lowest, highest, signed(mark, size))
+}
+
+// The number of columns whose blanks and mark end at `start`: a nought there has to stand alone, without a minus.
+pub(crate) fn number_after(
+    columns: &[u8],
+    start: usize,
+    mark: u8,
+    lowest: i64,
+    highest: i64,
+) -> Number
+    requires { ⌜ Ready (now columns) start mark ⌝ }
+    ensures { λ r. ⌜ r ≡ parse lowest highest (now (columns .entry)) ⌝ }
+{
+    let end = columns.len();
+    if start == end {
+        return none();
+    }
+    if columns[start] == b'0' {
+        if start + 1 < end {
+            return none();
+        }
+        if mark == b' ' {
+            return within(lowest, highest, 0);
+        }
+        return none();
+    }
+    digits_after(columns, start, mark, lowest, highest)
+}

@@ -1,0 +1,121 @@
+// Inner functions of the writer: blanks first, then from the last digit on to the left, two digits a turn as long as
+// there are two, then one column a turn, with the mark as the last.
+ghost use mathlib.Core.Path.{_≡_};
+ghost use Prim.Native.Nat.{_+_, _<_, _≤_};
+ghost use lib.ListN.{length};
+ghost use lib.IntN.{natAbs};
+ghost use Rattle.text.specs.Writes.{put};
+ghost use Rattle.text.specs.Decimals.{glyph, nextMark, columns, plain, markOf};
+ghost use Rattle.text.specs.Stages.{Blank};
+
+// The byte of a column for what is left of the number there: its last digit, or the mark where nothing is left.
+pub(crate) fn glyph(rest: u64, mark: u8) -> u8
+    ensures { λ r. ⌜ r ≡ glyph rest mark ⌝ }
+{
+    if rest == 0 {
+        mark
+    } else {
+        b'0' + (rest % 10) as u8
+    }
+}
+
+// The mark for the column before: a mark stands once.
+fn next_mark(rest: u64, mark: u8) -> u8
+    ensures { λ r. ⌜ r ≡ nextMark rest mark ⌝ }
+{
+    if rest == 0 { b' ' } else { mark }
+}
+
+// The number without its sign. One is added before it is negated, since the least number has no negative in 64 bits.
+pub(crate) fn magnitude(value: i64) -> u64
+    ensures { λ r. ⌜ r ≡ natAbs value ⌝ }
+{
+    if value < 0 {
+        (-(value + 1)) as u64 + 1
+    } else {
+        value as u64
+    }
+}
+
+// A minus below zero, otherwise a blank.
+pub(crate) fn mark_of(value: i64) -> u8
+    ensures { λ r. ⌜ r ≡ markOf value ⌝ }
+{
+    if value < 0 { b'-' } else { b' ' }
+}
+
+// Blanks in `width` columns.
+fn write_blanks(out: &mut [u8], at: usize, width: usize)
+    requires { ⌜ at + width ≤ length (now out) ⌝ }
+    ensures { λ _. ⌜ now (out .exit) ≡ put (now (out .entry)) at (columns width 32 0) ⌝ }
+{
+    let mut i = 0;
+    while i < width {
+        let k = at + i;
+        out[k] = b' ';
+        i += 1;
+    }
+}
+
+// The digits of n and its mark in columns that hold blanks, one column a turn.
+fn write_singles(out: &mut [u8], at: usize, width: usize, mark: u8, n: u64)
+    requires { ⌜ at + width ≤ length (now out) ⌝ }
+    requires { ⌜ Blank (now out) at width ⌝ }
+    ensures { λ _. ⌜ now (out .exit) ≡ put (now (out .entry)) at (columns width mark n) ⌝ }
+{
+    let mut i = width;
+    let mut m = mark;
+    let mut rest = n;
+    while i > 0 {
+        if rest == 0 {
+            if m == b' ' {
+                return;
+            }
+        }
+        i -= 1;
+        let k = at + i;
+        out[k] = glyph(rest, m);
+        m = next_mark(rest, m);
+        rest = rest / 10;
+    }
+}
+
+// The digits of n and its mark in columns that hold blanks, two digits a turn as long as there are two.
+fn write_pairs(out: &mut [u8], at: usize, width: usize, mark: u8, n: u64)
+    requires { ⌜ at + width ≤ length (now out) ⌝ }
+    requires { ⌜ Blank (now out) at width ⌝ }
+    ensures { λ _. ⌜ now (out .exit) ≡ put (now (out .entry)) at (columns width mark n) ⌝ }
+{
+    let mut i = width;
+    let mut rest = n;
+    while rest >= 10 {
+        // Fewer columns than digits: the last digits stay.
+        if i < 2 {
+            write_singles(out, at, i, mark, rest);
+            return;
+        }
+        // The remainder by the quotient, so that there is one division a turn.
+        let hundreds = rest / 100;
+        let pair = (rest - hundreds * 100) as u32;
+        rest = hundreds;
+        i -= 2;
+        let k = at + i;
+        let second = k + 1;
+        out[second] = b'0' + (pair % 10) as u8;
+        out[k] = b'0' + (pair / 10) as u8;
+    }
+    write_singles(out, at, i, mark, rest);
+}
+
+// n in `width` columns from `at` on, with the mark before its first digit.
+pub(crate) fn write_plain(out: &mut [u8], at: usize, width: usize, mark: u8, n: u64)
+    requires { ⌜ 0 < width ⌝ }
+    requires { ⌜ at + width ≤ length (now out) ⌝ }
+    ensures { λ _. ⌜ now (out .exit) ≡ put (now (out .entry)) at (plain width mark n) ⌝ }
+{
+    write_blanks(out, at, width);
+    let before = width - 1;
+    let last = at + before;
+    out[last] = b'0' + (n % 10) as u8;
+    write_pairs(out, at, before, mark, n / 10);
+}
