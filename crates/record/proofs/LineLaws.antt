@@ -19,7 +19,7 @@ use Rattle.numeric.proofs.TableLaws.{tab-of-list, tab-eq}
 use Rattle.text.specs.declared.Number.{Number}
 use Rattle.text.specs.Blocks.{part}
 use Rattle.text.specs.Decimals.{glyph, columns, plain, decimal}
-use Rattle.text.specs.Reading.{Seen, cols, nought, bad, runOn, start, accepted, none, signed, within, finish, parse}
+use Rattle.text.specs.Reading.{Seen, cols, loneZero, bad, runOn, start, accepted, none, signed, within, finish, parse}
 use Rattle.text.proofs.BlockLaws.{blocks-length}
 use Rattle.text.proofs.DecimalLaws.{plain-length, decimal-length}
 use Rattle.text.proofs.ReadingLaws.{parse-decimal, parse-only}
@@ -137,7 +137,7 @@ finish-settled : (lowest highest : ℤ) (s : Seen) → Settled (finish lowest hi
 unfolding finish Settled
 finish-settled lowest highest (cols m r) =
     settled (eqb r 0) none (within lowest highest (signed m r)) (λ e. refl) (within-settled lowest highest (signed m r))
-finish-settled lowest highest nought = within-settled lowest highest (pos 0)
+finish-settled lowest highest loneZero = within-settled lowest highest (pos 0)
 finish-settled lowest highest bad = λ e. refl
 
 parse-refused : (lowest highest : ℤ) (t : List ℕ) → parse lowest highest t .ok ≡ false → parse lowest highest t ≡ none

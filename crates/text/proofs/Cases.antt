@@ -63,14 +63,14 @@ small-read : map small ((32 ∷ 45 ∷ 55 ∷ []) ∷ (32 ∷ 48 ∷ []) ∷ (57
 unfolding isDigit digit other next runOn signed within finish parse
 small-read = refl
 
--- "100" and "-100" are outside the limits, and a nought where 1 is the lowest.
+-- "100" and "-100" are outside the limits, and a zero where 1 is the lowest.
 small-outside : map small ((49 ∷ 48 ∷ 48 ∷ []) ∷ (45 ∷ 49 ∷ 48 ∷ 48 ∷ []) ∷ []) ≡ replicate 2 none
 unfolding isDigit digit other next runOn signed within finish parse
 small-outside = refl
 
-nought-outside : parse (pos 1) (pos 9) (48 ∷ []) ≡ none
+zero-outside : parse (pos 1) (pos 9) (48 ∷ []) ≡ none
 unfolding isDigit digit other next runOn signed within finish parse
-nought-outside = refl
+zero-outside = refl
 
 -- The bytes beside a write stay, and a write past the end changes nothing.
 write-inside : putWithin (1 ∷ 2 ∷ 3 ∷ 4 ∷ []) 1 (7 ∷ 8 ∷ []) ≡ 1 ∷ 7 ∷ 8 ∷ 4 ∷ []

@@ -17,7 +17,7 @@ use lib.Signed.{leZ}
 use Rattle.numeric.proofs.CheckLaws.{and-left, and-right}
 use Rattle.text.specs.declared.Number.{Number}
 use Rattle.text.specs.Decimals.{glyph, nextMark, columns, plain, decimal}
-use Rattle.text.specs.Reading.{Seen, cols, nought, bad, most, isDigit, digit, other, next, runOn, start, accepted, none, signed, within, finish, parse}
+use Rattle.text.specs.Reading.{Seen, cols, loneZero, bad, most, isDigit, digit, other, next, runOn, start, accepted, none, signed, within, finish, parse}
 
 pub run-append : (s : Seen) (xs ys : List ℕ) → runOn s (xs ++ ys) ≡ runOn (runOn s xs) ys
 unfolding runOn
@@ -95,13 +95,13 @@ plain-run w m n e l =
     ∙ next-digit m (suc n / 10) (suc n % 10) (omega arith) (λ q. omega arith) l
     ∙ ap (cols m) (omega arith)
 
-nought-run : (w : ℕ) → 0 < 10 ^ w → runOn start (plain (suc w) 32 0) ≡ nought
+zero-run : (w : ℕ) → 0 < 10 ^ w → runOn start (plain (suc w) 32 0) ≡ loneZero
 unfolding plain next
-nought-run w h =
-    run-snoc start (columns w 32 0) 48 ∙ ap (λ (s : Seen). next s 48) (blank-run w 0 h (omega arith)) ∙ on-nought
+zero-run w h =
+    run-snoc start (columns w 32 0) 48 ∙ ap (λ (s : Seen). next s 48) (blank-run w 0 h (omega arith)) ∙ on-zero
   where
-    on-nought : next start 48 ≡ nought
-    on-nought = refl
+    on-zero : next start 48 ≡ loneZero
+    on-zero = refl
 
 module _ (lowest highest : ℤ) where
   pub within-passed : (z : ℤ) → leZ lowest z && leZ z highest ≡ true → within lowest highest z ≡ accepted z
@@ -126,7 +126,7 @@ module _ (lowest highest : ℤ) where
       → parse lowest highest (decimal (suc (suc w)) z) ≡ accepted z
   unfolding parse decimal signed finish
   parse-decimal w (pos zero) a b k l =
-      ap (finish lowest highest) (nought-run (suc w) (rw (pow-suc 10 w) (omega arith))) ∙ within-accepted (pos 0) a b
+      ap (finish lowest highest) (zero-run (suc w) (rw (pow-suc 10 w) (omega arith))) ∙ within-accepted (pos 0) a b
   parse-decimal w (pos (suc n)) a b k l =
       let wide : suc n / 10 < 10 ^ suc w = rw (pow-suc 10 w) (omega arith) in
       ap (finish lowest highest) (plain-run (suc w) 32 n (blank-run (suc w) (suc n / 10) wide (omega arith)) l)
@@ -143,7 +143,7 @@ module _ (lowest highest : ℤ) where
       → n / 10 ≤ most
       → parse lowest highest (decimal (suc w) (pos n)) ≡ accepted (pos n)
   unfolding parse decimal signed finish
-  parse-plain w zero a b k l = ap (finish lowest highest) (nought-run w (omega arith)) ∙ within-accepted (pos 0) a b
+  parse-plain w zero a b k l = ap (finish lowest highest) (zero-run w (omega arith)) ∙ within-accepted (pos 0) a b
   parse-plain w (suc n) a b k l =
       ap (finish lowest highest) (plain-run w 32 n (blank-run w (suc n / 10) k (omega arith)) l)
       ∙ finish-cols 32 n
@@ -152,7 +152,7 @@ module _ (lowest highest : ℤ) where
 -- And nothing else passes: what was seen of the bytes xs says which columns they are.
 Reads : List ℕ → Seen → Type 0
 Reads xs (cols m r) = (xs ≡ columns (length xs) m r) × ((m ≡ 32) ⊎ (m ≡ 45))
-Reads xs nought = xs ≡ plain (length xs) 32 0
+Reads xs loneZero = xs ≡ plain (length xs) 32 0
 Reads xs bad = xs ≡ xs
 
 by-cases : {A : Type 0} (P : A → Type 0) (b : Bool) (x y : A) → (b ≡ true → P x) → (b ≡ false → P y) → P (cond b x y)
@@ -228,7 +228,7 @@ next-reads xs (cols m r) b h =
     let back : 48 + (b - 48) ≡ b = omega arith in
     subst (λ (x : ℕ). Reads (xs ++ (x ∷ [])) (digit m r (b - 48))) back (digit-reads xs m r (b - 48) h (omega arith)))
     (λ e. other-reads xs m r b h)
-next-reads xs nought b h = no-more
+next-reads xs loneZero b h = no-more
   where
     no-more : Reads (xs ++ (b ∷ [])) bad
     no-more = refl
@@ -290,7 +290,7 @@ finish-reads lowest highest t (cols m r) h =
     let some : r ≡ 0 → ⊥ = eqb-false r 0 e in
     within-written lowest highest t (signed m r)
     (h .0 ∙ columns-plain (length t) m r some ∙ signed-decimal (length t) m r some (h .1)))
-finish-reads lowest highest t nought h = within-written lowest highest t (pos 0) h
+finish-reads lowest highest t loneZero h = within-written lowest highest t (pos 0) h
 finish-reads lowest highest t bad h = λ q. absurd (true≢false (sym q))
 
 pub parse-only : (lowest highest : ℤ) (t : List ℕ) → parse lowest highest t .ok ≡ true

@@ -1,4 +1,4 @@
--- What the reading functions do at each byte: the blanks, the mark, a nought, the digits. `stuck` is a return at a
+-- What the reading functions do at each byte: the blanks, the mark, a zero, the digits. `stuck` is a return at a
 -- byte that no number has there, `ended` the end of the text; `Turn` is the invariant of the loop over the digits,
 -- with a law for its start, a turn and each exit. No assumptions.
 use Prim.Native.Nat.{ℕ, zero, suc, _+_, _-_, _*_, _≤_, _<_}
@@ -12,7 +12,7 @@ use lib.Dec.{eqb}
 use lib.IntN.{ℤ, pos}
 use lib.ListN.{length, take, drop, getD, take-append-drop}
 use lib.Seq.{take-suc, take-all}
-use Rattle.text.specs.Reading.{Seen, cols, nought, bad, most, isDigit, digit, other, next, runOn, start, none, signed, within, finish, parse}
+use Rattle.text.specs.Reading.{Seen, cols, loneZero, bad, most, isDigit, digit, other, next, runOn, start, none, signed, within, finish, parse}
 use Rattle.text.specs.Stages.{Blanks, Ready}
 use Rattle.text.proofs.ReadingLaws.{run-append, run-snoc, run-bad, is-digit, next-digit}
 
@@ -74,17 +74,17 @@ other-mark : (b : ℕ) → (b ≡ 32 → ⊥) → (b ≡ 45 → ⊥) → other 3
 unfolding other
 other-mark b h k = rw (ne-eqb b 32 h, ne-eqb b 45 k) refl
 
-next-nought : next (cols 32 0) 48 ≡ nought
+next-zero : next (cols 32 0) 48 ≡ loneZero
 unfolding next
-next-nought = refl
+next-zero = refl
 
-after-nought : (b : ℕ) → next nought b ≡ bad
+after-zero : (b : ℕ) → next loneZero b ≡ bad
 unfolding next
-after-nought b = refl
+after-zero b = refl
 
-next-minus-nought : (m : ℕ) → (m ≡ 32 → ⊥) → next (cols m 0) 48 ≡ bad
+next-minus-zero : (m : ℕ) → (m ≡ 32 → ⊥) → next (cols m 0) 48 ≡ bad
 unfolding next digit
-next-minus-nought m h = rw (ne-eqb m 32 h) refl
+next-minus-zero m h = rw (ne-eqb m 32 h) refl
 
 next-full : (m r b : ℕ) → 48 ≤ b → b ≤ 57 → most < r → next (cols m r) b ≡ bad
 unfolding next digit
@@ -134,26 +134,26 @@ module _ (lowest highest : ℤ) (t : List ℕ) (i m : ℕ) (h : Ready t i m) whe
 
       at : (b : Bool) → eqb m 32 ≡ b → parse lowest highest t ≡ none
       at true q =
-          stuck lowest highest t (i + 1) nought l
-          (seen ∙ ap (λ (x : ℕ). next (cols x 0) 48) (eqb-true m 32 q) ∙ next-nought)
-          (after-nought (getD t (i + 1) 0))
+          stuck lowest highest t (i + 1) loneZero l
+          (seen ∙ ap (λ (x : ℕ). next (cols x 0) 48) (eqb-true m 32 q) ∙ next-zero)
+          (after-zero (getD t (i + 1) 0))
       at false q =
           stuck lowest highest t i (cols m 0) (omega arith) (h .seen)
-          (ap (next (cols m 0)) e ∙ next-minus-nought m (eqb-false m 32 q))
+          (ap (next (cols m 0)) e ∙ next-minus-zero m (eqb-false m 32 q))
 
-  pub ready-nought : i < length t → length t ≤ i + 1 → getD t i 0 ≡ 48 → m ≡ 32
+  pub ready-zero : i < length t → length t ≤ i + 1 → getD t i 0 ≡ 48 → m ≡ 32
       → parse lowest highest t ≡ within lowest highest (pos 0)
   unfolding finish
-  ready-nought l k e q =
-      ended lowest highest t (i + 1) nought k
+  ready-zero l k e q =
+      ended lowest highest t (i + 1) loneZero k
       (run-turn t i (cols m 0) l (h .seen)
       ∙ ap (next (cols m 0)) e
       ∙ ap (λ (x : ℕ). next (cols x 0) 48) q
-      ∙ next-nought)
+      ∙ next-zero)
 
-  pub ready-minus-nought : i < length t → getD t i 0 ≡ 48 → (m ≡ 32 → ⊥) → parse lowest highest t ≡ none
-  ready-minus-nought l e q =
-      stuck lowest highest t i (cols m 0) l (h .seen) (ap (next (cols m 0)) e ∙ next-minus-nought m q)
+  pub ready-minus-zero : i < length t → getD t i 0 ≡ 48 → (m ≡ 32 → ⊥) → parse lowest highest t ≡ none
+  ready-minus-zero l e q =
+      stuck lowest highest t i (cols m 0) l (h .seen) (ap (next (cols m 0)) e ∙ next-minus-zero m q)
 
 -- The loop over the digits: v is the number of those before k.
 pub record Turn (t : List ℕ) (m v k : ℕ) : Type 0 where

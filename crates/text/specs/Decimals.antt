@@ -1,5 +1,5 @@
 -- Numbers in columns (scope, "Probe frame, letter, record"): "Decimals are right-justified, blanks before, a minus
--- against the first digit, no leading zero." 32 is a blank, 45 a minus, 48 a nought. Where a number has more digits
+-- against the first digit, no leading zero." 32 is a blank, 45 a minus, 48 a zero. Where a number has more digits
 -- than columns the last ones stay. Laws: proofs/DecimalLaws.antt. No assumptions.
 use Prim.Native.Nat.{ℕ, zero, suc, _+_, _/_, _%_}
 use mathlib.Core.List.{List, [], _∷_, _++_}

@@ -10,11 +10,11 @@ use lib.IntN.{ℤ, pos, negℤ}
 use lib.Signed.{leZ}
 use Rattle.text.specs.declared.Number.{Number}
 
--- What was seen so far: the columns of a mark and of the digits' number, a nought that stands alone, or what no number
+-- What was seen so far: the columns of a mark and of the digits' number, a zero that stands alone, or what no number
 -- begins with. Blanks alone are `cols 32 0`, a minus after them `cols 45 0`.
 pub data Seen : Type 0 where
   cols : ℕ → ℕ → Seen
-  nought : Seen
+  loneZero : Seen
   bad : Seen
 
 -- The most that one digit more may follow: every number of up to 18 digits is read, and 10^18 to 10^18 + 9.
@@ -24,9 +24,9 @@ most = 100_000_000_000_000_000
 unfoldable pub isDigit : ℕ → Bool
 isDigit b = cond (ltb b 48) false (ltb b 58)
 
--- A digit d after the columns of m and r: no nought before other digits, none after a minus.
+-- A digit d after the columns of m and r: no zero before other digits, none after a minus.
 unfoldable pub digit : ℕ → ℕ → ℕ → Seen
-digit m r d = cond (eqb (r + d) 0) (cond (eqb m 32) nought bad) (cond (leb r most) (cols m (r * 10 + d)) bad)
+digit m r d = cond (eqb (r + d) 0) (cond (eqb m 32) loneZero bad) (cond (leb r most) (cols m (r * 10 + d)) bad)
 
 -- Any other byte: a blank or a minus, after blanks only.
 unfoldable pub other : ℕ → ℕ → ℕ → Seen
@@ -37,7 +37,7 @@ other m r b =
 unfoldable pub next : Seen → ℕ → Seen
 unfolding digit other isDigit
 next (cols m r) b = cond (isDigit b) (digit m r (b - 48)) (other m r b)
-next nought b = bad
+next loneZero b = bad
 next bad b = bad
 
 -- All bytes of a text, after what was seen before it.
@@ -69,7 +69,7 @@ within lowest highest z = cond (leZ lowest z && leZ z highest) (accepted z) none
 unfoldable pub finish : ℤ → ℤ → Seen → Number
 unfolding signed within
 finish lowest highest (cols m r) = cond (eqb r 0) none (within lowest highest (signed m r))
-finish lowest highest nought = within lowest highest (pos 0)
+finish lowest highest loneZero = within lowest highest (pos 0)
 finish lowest highest bad = none
 
 -- The number that the columns t are the text of, if there is one from `lowest` to `highest`.

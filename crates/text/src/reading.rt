@@ -64,7 +64,7 @@ pub(crate) fn blanks(columns: &[u8]) -> usize
     i
 }
 
-// The number of columns whose blanks and mark end at `start`, where no nought stands.
+// The number of columns whose blanks and mark end at `start`, where no zero stands.
 fn digits_after(columns: &[u8], start: usize, mark: u8, lowest: i64, highest: i64) -> Number
     requires { ⌜ Ready (now columns) start mark ⌝ }
     requires { ⌜ (getD (now columns) start 0 ≡ 48 → ⊥) ⌝ }
@@ -93,7 +93,7 @@ fn digits_after(columns: &[u8], start: usize, mark: u8, lowest: i64, highest: i6
     within(lowest, highest, signed(mark, size))
 }
 
-// The number of columns whose blanks and mark end at `start`: a nought there has to stand alone, without a minus.
+// The number of columns whose blanks and mark end at `start`: a zero there has to stand alone, without a minus.
 pub(crate) fn number_after(
     columns: &[u8],
     start: usize,

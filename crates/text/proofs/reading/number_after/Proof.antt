@@ -1,11 +1,11 @@
--- `reading::number_after` meets its contract: nothing left, a nought, or other digits. No assumptions.
+-- `reading::number_after` meets its contract: nothing left, a zero, or other digits. No assumptions.
 use mathlib.Core.Path.{sym, ap₂, _∙_}
 use native.Mathlib.Omega.{arith}
 use borrow.Author.Needs.{needs}
 use lib.IntN.{ℤ, pos}
 use mir.Facts.{toZ-ofZ}
 use Rattle.text.specs.Reading.{within, parse}
-use Rattle.text.proofs.ReadingLoop.{ready-none, ready-zeros, ready-nought, ready-minus-nought}
+use Rattle.text.proofs.ReadingLoop.{ready-none, ready-zeros, ready-zero, ready-minus-zero}
 use Rattle.text.proofs.reading.number_after.Statement.{statement}
 use Rattle.text.proofs.reading.number_after.Tie as tie
 
@@ -31,50 +31,50 @@ add-if3 c = search needs
 none-requires-2 : tie.Need-none-requires-2
 none-requires-2 c κs = search needs
 
--- A byte after a nought.
+-- A byte after a zero.
 returns-2 : tie.Need-returns-2
 returns-2 c =
-    let at-nought = c .before .before in
-    let at-start = at-nought .before .before .before .before in
+    let at-zero = c .before .before in
+    let at-start = at-zero .before .before .before .before in
     let args = at-start .args in
     c .none2 .ensures
     ∙ sym
     (ready-zeros (args .lowest) (args .highest) (args .columns .now) (args .start) (args .mark) (at-start .pre)
-    (omega arith) (at-nought .if2 .taken))
+    (omega arith) (at-zero .if2 .taken))
 
 within-requires : tie.Need-within-requires
 within-requires c κs = search needs
 
--- A nought alone.
+-- A zero alone.
 returns-3 : tie.Need-returns-3
 returns-3 c =
-    let at-nought = c .before .before .before in
-    let at-start = at-nought .before .before .before .before in
+    let at-zero = c .before .before .before in
+    let at-start = at-zero .before .before .before .before in
     let args = at-start .args in
     c .within .ensures
     ∙ ap₂ (λ (l h : ℤ). within l h (pos 0)) (toZ-ofZ (at-start .fits .lowest)) (toZ-ofZ (at-start .fits .highest))
     ∙ sym
-    (ready-nought (args .lowest) (args .highest) (args .columns .now) (args .start) (args .mark) (at-start .pre)
-    (omega arith) (omega arith) (at-nought .if2 .taken) (c .before .if4 .taken))
+    (ready-zero (args .lowest) (args .highest) (args .columns .now) (args .start) (args .mark) (at-start .pre)
+    (omega arith) (omega arith) (at-zero .if2 .taken) (c .before .if4 .taken))
 
 none-requires-3 : tie.Need-none-requires-3
 none-requires-3 c κs = search needs
 
--- A nought after a minus.
+-- A zero after a minus.
 returns-4 : tie.Need-returns-4
 returns-4 c =
-    let at-nought = c .before .before .before in
-    let at-start = at-nought .before .before .before .before in
+    let at-zero = c .before .before .before in
+    let at-start = at-zero .before .before .before .before in
     let args = at-start .args in
     c .none3 .ensures
     ∙ sym
-    (ready-minus-nought (args .lowest) (args .highest) (args .columns .now) (args .start) (args .mark) (at-start .pre)
-    (omega arith) (at-nought .if2 .taken) (c .before .if4 .left))
+    (ready-minus-zero (args .lowest) (args .highest) (args .columns .now) (args .start) (args .mark) (at-start .pre)
+    (omega arith) (at-zero .if2 .taken) (c .before .if4 .left))
 
 digits-after-requires : tie.Need-digits-after-requires
 digits-after-requires c κs = search needs
 
--- No nought.
+-- No zero.
 returns-5 : tie.Need-returns-5
 returns-5 c =
     let at-start = c .before .before .before .before .before in
