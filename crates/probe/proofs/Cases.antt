@@ -1,5 +1,5 @@
--- Worked cases, about the definitions and by computation: the f32 nearest 0.7 and 0.5, a percentage, the edges of what is
--- accepted, whole frames. A float is given as the rounding of a fraction, or by its bits where it is an edge. No assumptions.
+-- Worked cases beside those that document 01 stars (crate results), about the definitions and by computation: percentages, the
+-- edges of what is accepted, whole frames. A float is given as the rounding of a fraction, or by its bits where it is an edge. No assumptions.
 use mathlib.Core.Path.{_≡_, refl}
 use mathlib.Core.Bool.{true, false}
 use mathlib.Core.List.{List, [], _∷_, map}
@@ -40,9 +40,7 @@ tooLarge = ofBits binary32 0x4380_0000
 -- Micrograms; a saturation of 10,000,000 µg. 87.5 is exact, 33.3 is not.
 unfoldable pub cases : List Case
 cases =
-    pos (massMicrograms (nearest 7 10)) gives pos 699999
-    ∷ pos (massMicrograms (nearest 1 2)) gives pos 500000
-    ∷ pos (massMicrograms minusZero) gives pos 0
+    pos (massMicrograms minusZero) gives pos 0
     ∷ pos (massMicrograms least) gives pos 0
     ∷ pos (massMicrograms largest) gives pos 255999984
     ∷ pos (percentMicrograms (nearest 175 2) 10000000) gives pos 8750000
@@ -60,21 +58,21 @@ pub edges-hold :
 unfolding readingFits ofBits
 edges-hold = refl
 
--- A frame of 0.5 g of NH4-N, nothing else but an oxygen reading, and what it becomes.
+-- A frame of 0.25 g of NH4-N, nothing else but an oxygen reading, and what it becomes.
 abbrev frame : Oxygen → Frame
-frame oxygen = record { ammonium = nearest 1 2; nitrite = minusZero; nitrate = minusZero; phosphate = minusZero; oxygen = oxygen }
+frame oxygen = record { ammonium = nearest 1 4; nitrite = minusZero; nitrate = minusZero; phosphate = minusZero; oxygen = oxygen }
 
 abbrev taken : OxygenAmount → Amounts
-taken oxygen = record { number = 0; ammonium = pos 11160000000000; nitrite = pos 0; nitrate = pos 0; phosphate = pos 0; oxygen = oxygen }
+taken oxygen = record { number = 0; ammonium = pos 5580000000000; nitrite = pos 0; nitrate = pos 0; phosphate = pos 0; oxygen = oxygen }
 
 -- A mass, a percentage, a missing reading; then a saturation of 20,000,001 with a missing reading, and a reading below zero.
 pub frames-hold :
-    (frameAnswer (frame (Mass (nearest 7 10))) 10000000
+    (frameAnswer (frame (Mass (nearest 9 10))) 10000000
     ∷ frameAnswer (frame (Percent (nearest 175 2))) 10000000
     ∷ frameAnswer (frame Missing) 20000000
     ∷ frameAnswer (frame Missing) 20000001
     ∷ frameAnswer (frame (Mass leastNegative)) 20000000
     ∷ [])
-    ≡ (taken (Grains (pos 6835490235000)) ∷ taken (Grains (pos 85443750000000)) ∷ taken NoAmount ∷ refusedFrame 6 ∷ refusedFrame 9 ∷ [])
+    ≡ (taken (Grains (pos 8788490235000)) ∷ taken (Grains (pos 85443750000000)) ∷ taken NoAmount ∷ refusedFrame 6 ∷ refusedFrame 9 ∷ [])
 unfolding frameAnswer frameNumber frameFits firstHolding readingFits scaledFloor ofBits round
 frames-hold = refl

@@ -1,4 +1,3 @@
-pub mod Cases
 pub mod ExtentBounds
 pub mod RatingLaws
 pub mod StepArithmetic

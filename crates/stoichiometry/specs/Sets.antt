@@ -2,10 +2,10 @@
 -- answer of `Set::published`. The answer of the rows: crate rows. No assumptions.
 use Prim.Native.Nat.{ℕ}
 use mathlib.Core.Bool.{Bool, true, not, _&&_, cond}
-use mathlib.Core.List.{List, [], _∷_}
+use mathlib.Core.List.{[], _∷_}
 use mathlib.Core.Path.{_≡_}
 use lib.Dec.{eqb}
-use lib.IntN.{ℤ, pos}
+use lib.IntN.{pos}
 use lib.Signed.{leZ, ltZ}
 use Rattle.numeric.specs.Check.{every, firstHolding, _when_}
 use Rattle.stoichiometry.specs.declared.RateConstants.{RateConstants}
@@ -15,7 +15,7 @@ use Rattle.stoichiometry.specs.declared.Set.{Set}
 use Rattle.stoichiometry.specs.declared.Published.{Published}
 use Rattle.stoichiometry.specs.Substances.{place, nh4, hpo4, o2, hco3}
 use Rattle.stoichiometry.specs.Parameters.{fractionsWrong, figuresWrong, constantsFit, fractions, publishedSet}
-use Rattle.stoichiometry.specs.Rows.{processes, Process, Asked, consumesO2, takesUpNothing, unasked, processAt, oxygenChange, rowEntry}
+use Rattle.stoichiometry.specs.Rows.{processes, Asked, consumesO2, takesUpNothing, unasked, processAt, oxygenChange, rowEntry}
 
 -- A process at place p has what check 3 asks of it. An entry of 0 is no uptake.
 abbrev pub askedMet : Set → ℕ → Asked → Bool

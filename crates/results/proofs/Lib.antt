@@ -1,0 +1,2 @@
+-- The results.
+pub mod Results
