@@ -2,7 +2,7 @@
 -- 8; any row balances; the starred cases. The definitions to believe stand in specs/ of the crates named in the `use` lines.
 -- No assumptions.
 use Prim.Native.Nat.{ℕ, _*_, _≤_}
-use mathlib.Core.Bool.{true, false}
+use mathlib.Core.Bool.{false}
 use mathlib.Core.List.{List}
 use mathlib.Core.Path.{_≡_, refl}
 use lib.Ieee.{round}

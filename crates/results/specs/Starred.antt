@@ -10,11 +10,10 @@ use Rattle.numeric.specs.Case.{Case, _gives_}
 use Rattle.numeric.specs.Check.{firstHolding, _when_}
 use Rattle.stoichiometry.specs.declared.Fractions.{Fractions}
 use Rattle.stoichiometry.specs.declared.GrowthRates.{GrowthRates}
-use Rattle.stoichiometry.specs.declared.HalfSaturations.{HalfSaturations}
 use Rattle.stoichiometry.specs.declared.RateConstants.{RateConstants}
 use Rattle.stoichiometry.specs.declared.Set.{Set}
 use Rattle.stoichiometry.specs.Substances.{organic, ss, xh, xs, nh4, no3, hpo4, o2, hco3, hPlus, h2o, n2, place}
-use Rattle.stoichiometry.specs.Parameters.{fractions, publishedFractions, publishedYields, publishedInert, publishedSet}
+use Rattle.stoichiometry.specs.Parameters.{allHalfSaturations, fractions, publishedFractions, publishedYields, publishedInert, publishedSet}
 use Rattle.stoichiometry.specs.Rows.{rowEntry}
 use Rattle.stoichiometry.specs.Sets.{setNumber}
 use Rattle.kinetics.specs.declared.Conditions.{Conditions}
@@ -39,19 +38,8 @@ rates =
       desorption = 0;
     }
 
-abbrev halfSaturations : HalfSaturations
-halfSaturations =
-    let k : ℕ = 1000000 in
-    record {
-      aerobic = record { ss = k; o2 = k; nitrogen = k; phosphate = k };
-      anoxic = record { ss = k; o2 = k; no3 = k; no2 = k; phosphate = k };
-      xn1 = record { o2 = k; nh4 = k; phosphate = k };
-      xn2 = record { o2 = k; no2 = k; phosphate = k };
-      algae = record { o2 = k; nitrogen = k; nh4 = k; phosphate = k };
-    }
-
 abbrev published : Set
-published = publishedSet rates halfSaturations
+published = publishedSet rates (allHalfSaturations 1000000)
 
 -- The published set with other fractions of SS.
 abbrev withSs : Fractions → Set
@@ -71,7 +59,7 @@ withSs f =
       yields = publishedYields;
       inert = publishedInert;
       rates = rates;
-      half = halfSaturations;
+      half = allHalfSaturations 1000000;
     }
 
 -- Every factor 10^6.

@@ -1,48 +1,19 @@
 -- Worked cases of sets and rows beside those that document 01 stars (crate results): row 6 leaves NO2 alone, the inert part of
 -- row 14 is not cut, the published set is accepted. A table about the definitions, and that all of it holds. No assumptions.
-use Prim.Native.Nat.{ℕ}
 use mathlib.Core.List.{List, [], _∷_}
 use mathlib.Core.Path.{refl}
 use lib.IntN.{pos}
 use Rattle.numeric.specs.Check.{every, allOf, firstHolding}
 use Rattle.numeric.specs.Case.{Case, _gives_, AllHold}
-use Rattle.stoichiometry.specs.declared.RateConstants.{RateConstants}
-use Rattle.stoichiometry.specs.declared.HalfSaturations.{HalfSaturations}
-use Rattle.stoichiometry.specs.declared.GrowthRates.{GrowthRates}
 use Rattle.stoichiometry.specs.declared.Set.{Set}
 use Rattle.stoichiometry.specs.Substances.{organic, xi, no2, place}
-use Rattle.stoichiometry.specs.Parameters.{addsUp, inRange, fractionsWrong, figuresWrong, yieldsFit, constantsFit, publishedSet}
+use Rattle.stoichiometry.specs.Parameters.{allRates, allHalfSaturations, addsUp, inRange, fractionsWrong, figuresWrong, yieldsFit, constantsFit, publishedSet}
 use Rattle.stoichiometry.specs.Rows.{entry, oxygenChange, row, processesOf, processAt, rowEntry}
 use Rattle.stoichiometry.specs.Sets.{rowsWrong, setNumber}
 
 -- Rate constants of 2,000 and half-saturations of 1,000,000.
-abbrev rates : RateConstants
-rates =
-    let both : GrowthRates = record { growth = 2000; respiration = 2000 } in
-    record {
-      aerobic = both;
-      anoxic = both;
-      xn1 = both;
-      xn2 = both;
-      algae = record { ammonium = 2000; nitrate = 2000; respiration = 2000; death = 2000 };
-      hydrolysis = 2000;
-      adsorption = 2000;
-      desorption = 2000;
-    }
-
-abbrev halfSaturations : HalfSaturations
-halfSaturations =
-    let k : ℕ = 1000000 in
-    record {
-      aerobic = record { ss = k; o2 = k; nitrogen = k; phosphate = k };
-      anoxic = record { ss = k; o2 = k; no3 = k; no2 = k; phosphate = k };
-      xn1 = record { o2 = k; nh4 = k; phosphate = k };
-      xn2 = record { o2 = k; no2 = k; phosphate = k };
-      algae = record { o2 = k; nitrogen = k; nh4 = k; phosphate = k };
-    }
-
 abbrev published : Set
-published = publishedSet rates halfSaturations
+published = publishedSet (allRates 2000) (allHalfSaturations 1000000)
 
 pub cases : List Case
 cases =

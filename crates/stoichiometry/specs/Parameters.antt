@@ -10,6 +10,7 @@ use Rattle.stoichiometry.specs.declared.Organics.{Organics}
 use Rattle.stoichiometry.specs.declared.Yields.{Yields}
 use Rattle.stoichiometry.specs.declared.InertFractions.{InertFractions}
 use Rattle.stoichiometry.specs.declared.RateConstants.{RateConstants}
+use Rattle.stoichiometry.specs.declared.GrowthRates.{GrowthRates}
 use Rattle.stoichiometry.specs.declared.HalfSaturations.{HalfSaturations}
 use Rattle.stoichiometry.specs.declared.Set.{Set}
 use Rattle.stoichiometry.specs.Substances.{organics, fractionsOf}
@@ -46,6 +47,31 @@ halfList h =
     ∷ h .xn1 .o2 ∷ h .xn1 .nh4 ∷ h .xn1 .phosphate
     ∷ h .xn2 .o2 ∷ h .xn2 .no2 ∷ h .xn2 .phosphate
     ∷ h .algae .o2 ∷ h .algae .nitrogen ∷ h .algae .nh4 ∷ h .algae .phosphate ∷ []
+
+-- Every rate constant k, thousandths per day; every half-saturation k, µg.
+abbrev pub allRates : ℕ → RateConstants
+allRates k =
+    let organism : GrowthRates = record { growth = k; respiration = k } in
+    record {
+      aerobic = organism;
+      anoxic = organism;
+      xn1 = organism;
+      xn2 = organism;
+      algae = record { ammonium = k; nitrate = k; respiration = k; death = k };
+      hydrolysis = k;
+      adsorption = k;
+      desorption = k;
+    }
+
+abbrev pub allHalfSaturations : ℕ → HalfSaturations
+allHalfSaturations k =
+    record {
+      aerobic = record { ss = k; o2 = k; nitrogen = k; phosphate = k };
+      anoxic = record { ss = k; o2 = k; no3 = k; no2 = k; phosphate = k };
+      xn1 = record { o2 = k; nh4 = k; phosphate = k };
+      xn2 = record { o2 = k; no2 = k; phosphate = k };
+      algae = record { o2 = k; nitrogen = k; nh4 = k; phosphate = k };
+    }
 
 -- Every yield is from 1 to 100 hundredths, every inert fraction at most 100.
 unfoldable pub yieldsFit : Yields → InertFractions → Bool

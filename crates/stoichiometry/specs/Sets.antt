@@ -14,7 +14,7 @@ use Rattle.stoichiometry.specs.declared.GrowthRates.{GrowthRates}
 use Rattle.stoichiometry.specs.declared.Set.{Set}
 use Rattle.stoichiometry.specs.declared.Published.{Published}
 use Rattle.stoichiometry.specs.Substances.{place, nh4, hpo4, o2, hco3}
-use Rattle.stoichiometry.specs.Parameters.{fractionsWrong, figuresWrong, constantsFit, fractions, publishedSet}
+use Rattle.stoichiometry.specs.Parameters.{fractionsWrong, figuresWrong, constantsFit, fractions, publishedSet, allRates, allHalfSaturations}
 use Rattle.stoichiometry.specs.Rows.{processes, Asked, consumesO2, takesUpNothing, unasked, processAt, oxygenChange, rowEntry}
 
 -- A process at place p has what check 3 asks of it. An entry of 0 is no uptake.
@@ -41,30 +41,12 @@ Accepted set = setNumber set ≡ 0
 abbrev pub zeroSet : Set
 zeroSet =
     let none = fractions 0 0 0 0 0 in
-    let still : GrowthRates = record { growth = 0; respiration = 0 } in
     record {
       fractions = record { ss = none; si = none; xh = none; xn1 = none; xn2 = none; xalg = none; xs = none; xi = none };
       yields = record { aerobic = 0; nitrate = 0; nitrite = 0; xn1 = 0; xn2 = 0; death = 0; hydrolysis = 0 };
       inert = record { bacteria = 0; algae = 0 };
-      rates =
-          record {
-            aerobic = still;
-            anoxic = still;
-            xn1 = still;
-            xn2 = still;
-            algae = record { ammonium = 0; nitrate = 0; respiration = 0; death = 0 };
-            hydrolysis = 0;
-            adsorption = 0;
-            desorption = 0;
-          };
-      half =
-          record {
-            aerobic = record { ss = 0; o2 = 0; nitrogen = 0; phosphate = 0 };
-            anoxic = record { ss = 0; o2 = 0; no3 = 0; no2 = 0; phosphate = 0 };
-            xn1 = record { o2 = 0; nh4 = 0; phosphate = 0 };
-            xn2 = record { o2 = 0; no2 = 0; phosphate = 0 };
-            algae = record { o2 = 0; nitrogen = 0; nh4 = 0; phosphate = 0 };
-          };
+      rates = allRates 0;
+      half = allHalfSaturations 0;
     }
 
 -- The published set with the caller's rate constants and half-saturations; 2 and zeros where one is outside its range.

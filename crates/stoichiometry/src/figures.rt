@@ -2,19 +2,12 @@
 ghost use mathlib.Core.Path.{_≡_};
 ghost use Rattle.stoichiometry.specs.Parameters.{fractions, publishedSet};
 ghost use Rattle.stoichiometry.specs.Sets.{zeroSet};
-use crate::AerobicHalfSaturations;
-use crate::AlgaeHalfSaturations;
-use crate::AlgaeRates;
-use crate::AnoxicHalfSaturations;
 use crate::Fractions;
-use crate::GrowthRates;
 use crate::HalfSaturations;
 use crate::InertFractions;
 use crate::Organics;
 use crate::RateConstants;
 use crate::Set;
-use crate::Xn1HalfSaturations;
-use crate::Xn2HalfSaturations;
 use crate::Yields;
 
 // C, H, O, N, P, thousandths.
@@ -66,10 +59,6 @@ pub(crate) fn zero_set() -> Set
     ensures { λ r. ⌜ r ≡ zeroSet ⌝ }
 {
     let none = fractions_of(0, 0, 0, 0, 0);
-    let still = GrowthRates {
-        growth: 0,
-        respiration: 0,
-    };
     Set {
         fractions: Organics {
             ss: none,
@@ -94,51 +83,7 @@ pub(crate) fn zero_set() -> Set
             bacteria: 0,
             algae: 0,
         },
-        rates: RateConstants {
-            aerobic: still,
-            anoxic: still,
-            xn1: still,
-            xn2: still,
-            algae: AlgaeRates {
-                ammonium: 0,
-                nitrate: 0,
-                respiration: 0,
-                death: 0,
-            },
-            hydrolysis: 0,
-            adsorption: 0,
-            desorption: 0,
-        },
-        half: HalfSaturations {
-            aerobic: AerobicHalfSaturations {
-                ss: 0,
-                o2: 0,
-                nitrogen: 0,
-                phosphate: 0,
-            },
-            anoxic: AnoxicHalfSaturations {
-                ss: 0,
-                o2: 0,
-                no3: 0,
-                no2: 0,
-                phosphate: 0,
-            },
-            xn1: Xn1HalfSaturations {
-                o2: 0,
-                nh4: 0,
-                phosphate: 0,
-            },
-            xn2: Xn2HalfSaturations {
-                o2: 0,
-                no2: 0,
-                phosphate: 0,
-            },
-            algae: AlgaeHalfSaturations {
-                o2: 0,
-                nitrogen: 0,
-                nh4: 0,
-                phosphate: 0,
-            },
-        },
+        rates: RateConstants::all(0),
+        half: HalfSaturations::all(0),
     }
 }

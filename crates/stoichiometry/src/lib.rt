@@ -1,7 +1,7 @@
 // Parameter sets: what a set is, the published set, checks 1 and 2. Check 3 and the rows: crate rows.
 // Every call answers for every input.
 ghost use mathlib.Core.Path.{_≡_};
-ghost use Rattle.stoichiometry.specs.Parameters.{fractionsWrong, figuresWrong};
+ghost use Rattle.stoichiometry.specs.Parameters.{fractionsWrong, figuresWrong, allRates, allHalfSaturations};
 ghost use Rattle.stoichiometry.specs.Sets.{publishedAnswer};
 use crate::checks::constants_fit;
 use crate::figures::published_set;
@@ -82,6 +82,33 @@ pub struct RateConstants {
     pub desorption: u32,
 }
 
+impl RateConstants {
+    // Every rate constant k, thousandths per day.
+    pub fn all(k: u32) -> RateConstants
+        ensures answer { λ r. ⌜ r ≡ allRates k ⌝ }
+    {
+        let organism = GrowthRates {
+            growth: k,
+            respiration: k,
+        };
+        RateConstants {
+            aerobic: organism,
+            anoxic: organism,
+            xn1: organism,
+            xn2: organism,
+            algae: AlgaeRates {
+                ammonium: k,
+                nitrate: k,
+                respiration: k,
+                death: k,
+            },
+            hydrolysis: k,
+            adsorption: k,
+            desorption: k,
+        }
+    }
+}
+
 // Half-saturations, µg, of XH with oxygen.
 pub struct AerobicHalfSaturations {
     pub ss: u32,
@@ -127,6 +154,45 @@ pub struct HalfSaturations {
     pub xn1: Xn1HalfSaturations,
     pub xn2: Xn2HalfSaturations,
     pub algae: AlgaeHalfSaturations,
+}
+
+impl HalfSaturations {
+    // Every half-saturation k, µg.
+    pub fn all(k: u32) -> HalfSaturations
+        ensures answer { λ r. ⌜ r ≡ allHalfSaturations k ⌝ }
+    {
+        HalfSaturations {
+            aerobic: AerobicHalfSaturations {
+                ss: k,
+                o2: k,
+                nitrogen: k,
+                phosphate: k,
+            },
+            anoxic: AnoxicHalfSaturations {
+                ss: k,
+                o2: k,
+                no3: k,
+                no2: k,
+                phosphate: k,
+            },
+            xn1: Xn1HalfSaturations {
+                o2: k,
+                nh4: k,
+                phosphate: k,
+            },
+            xn2: Xn2HalfSaturations {
+                o2: k,
+                no2: k,
+                phosphate: k,
+            },
+            algae: AlgaeHalfSaturations {
+                o2: k,
+                nitrogen: k,
+                nh4: k,
+                phosphate: k,
+            },
+        }
+    }
 }
 
 // A parameter set.

@@ -1,0 +1,193 @@
+// The river, and what is done to it.
+use kinetics::Conditions;
+use kinetics::Temperatures;
+use libc::STDOUT_FILENO;
+use probe::Amounts;
+use probe::Frame;
+use probe::Oxygen;
+use probe::OxygenAmount;
+use river::River;
+use stoichiometry::HalfSaturations;
+use stoichiometry::RateConstants;
+use stoichiometry::Set;
+
+const CELLS: u32 = 2;
+
+const BYTES: usize = 2 * record::CELL_BYTES;
+
+// Substances, counted from 1.
+const SS: u32 = 1;
+
+const NH4: u32 = 3;
+
+const NO2: u32 = 4;
+
+const NO3: u32 = 5;
+
+const HPO4: u32 = 6;
+
+const O2: u32 = 7;
+
+const HCO3: u32 = 8;
+
+const XH: u32 = 10;
+
+const XN1: u32 = 11;
+
+const XN2: u32 = 12;
+
+const XALG: u32 = 13;
+
+const XS: u32 = 14;
+
+// O2 in water that is in balance with the air, µg/m³: 9.1 g.
+const SATURATION: u32 = 9100000;
+
+// A gram of an organic, µg; and one mole of bicarbonate, grains.
+const GRAM: i64 = 1000000;
+
+const MOLE: i64 = 312480000000000;
+
+fn write_call(name: &[u8], number: u32) {
+    io::write_all(STDOUT_FILENO, name);
+    io::print_decimal(STDOUT_FILENO, number as u64);
+    io::write_all(STDOUT_FILENO, b"\n");
+}
+
+// What the probe reads: NH4-N, NO2-N, NO3-N and PO4-P in g/m³, oxygen in per cent of saturation.
+fn frame() -> Frame {
+    Frame {
+        ammonium: 0.7,
+        nitrite: 0.05,
+        nitrate: 2.5,
+        phosphate: 0.12,
+        oxygen: Oxygen::Percent(87.5),
+    }
+}
+
+fn grains(oxygen: OxygenAmount) -> i64 {
+    match oxygen {
+        OxygenAmount::Grains(grains) => grains,
+        OxygenAmount::Missing => 0,
+    }
+}
+
+pub(crate) struct Day {
+    set: Set,
+    river: River,
+}
+
+impl Day {
+    pub(crate) fn start() -> Day {
+        let fresh = River::fresh(CELLS);
+        let river = fresh.river;
+        let published = Set::published(RateConstants::all(2000), HalfSaturations::all(1000000));
+        let set = published.set;
+        Day { set, river }
+    }
+
+    fn load(self, substance: u32, number: i64) -> Day {
+        let set = self.set;
+        let before = self.river;
+        let answer = river::load_river(before, 1, substance, number);
+        write_call(b"load ", answer.number);
+        let river = answer.river;
+        Day { set, river }
+    }
+
+    fn load_frame(self, amounts: Amounts) -> Day {
+        write_call(b"frame ", amounts.number);
+        let oxygen = amounts.oxygen;
+        self.load(NH4, amounts.ammonium)
+            .load(NO2, amounts.nitrite)
+            .load(NO3, amounts.nitrate)
+            .load(HPO4, amounts.phosphate)
+            .load(O2, grains(oxygen))
+    }
+
+    // The probe's amounts, 10 g of SS, 5 g of XS, 2 mol of HCO3 and the organisms.
+    pub(crate) fn loaded(self) -> Day {
+        self.load_frame(probe::amounts_of(frame(), SATURATION))
+            .load(SS, 10 * GRAM)
+            .load(XS, 5 * GRAM)
+            .load(HCO3, 2 * MOLE)
+            .load(XH, 3 * GRAM)
+            .load(XN1, GRAM)
+            .load(XN2, GRAM)
+            .load(XALG, 2 * GRAM)
+    }
+
+    // Ten minutes by day, at the temperature for which the rate constants hold: all factors 10^6 but light, a half.
+    fn step(self) -> Day {
+        let set = self.set;
+        let before = self.river;
+        let temperatures = Temperatures {
+            xh: 1000000,
+            xn1: 1000000,
+            xn2: 1000000,
+            algae: 1000000,
+            hydrolysis: 1000000,
+        };
+        let given = Conditions {
+            seconds: 600,
+            light: 500000,
+            temperatures,
+        };
+        let answer = step::step_river(set, before, given);
+        write_call(b"step ", answer.number);
+        let river = answer.river;
+        Day { set, river }
+    }
+
+    // A twentieth of each cell passes down.
+    fn flow(self) -> Day {
+        let set = self.set;
+        let before = self.river;
+        let answer = river::flow_river(before, 500);
+        write_call(b"flow ", answer.number);
+        let river = answer.river;
+        Day { set, river }
+    }
+
+    fn air(self, cell: u32) -> Day {
+        let set = self.set;
+        let before = self.river;
+        let answer = river::air_river(before, cell, 5000, 600, SATURATION);
+        write_call(b"air ", answer.number);
+        let river = answer.river;
+        Day { set, river }
+    }
+
+    fn ten_minutes(self) -> Day {
+        self.step().flow().air(1).air(2)
+    }
+
+    pub(crate) fn hour(self) -> Day {
+        self.ten_minutes()
+            .ten_minutes()
+            .ten_minutes()
+            .ten_minutes()
+            .ten_minutes()
+            .ten_minutes()
+    }
+
+    fn write_letter(self, cell: u32) {
+        let river = self.river;
+        let answer = river::letter_of(river, cell);
+        io::write_all(STDOUT_FILENO, b"letter ");
+        io::write_all(STDOUT_FILENO, &[answer.letter, b'\n']);
+    }
+
+    pub(crate) fn write(self) {
+        self.write_letter(1);
+        self.write_letter(2);
+        let river = self.river;
+        let mut output = [0; BYTES];
+        let mut work = [0; BYTES];
+        write_call(
+            b"record ",
+            record::write_record(river, &mut output, &mut work),
+        );
+        io::write_all(STDOUT_FILENO, &output);
+    }
+}
