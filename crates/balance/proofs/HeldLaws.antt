@@ -4,16 +4,16 @@
 use Prim.Native.Nat.{ℕ, suc, _+_, _*_, _-_, _≤_, _<_}
 use mathlib.Core.Bool.{Bool, true, false, _&&_, cond, true≢false}
 use mathlib.Core.List.{List, [], _∷_}
-use mathlib.Core.Path.{_≡_, refl, sym, ap, ap₂, _∙_}
+use mathlib.Core.Path.{_≡_, refl, sym, ap₂, _∙_}
 use native.Mathlib.Nat.{add-zero, add-suc}
 use native.Mathlib.Omega.{arith}
 use lib.ListN.{length}
-use lib.IntN.{ℤ, pos, _+ℤ_, _-ℤ_, +ℤ-idl, +ℤ-idr}
+use lib.IntN.{ℤ, pos, _+ℤ_, _-ℤ_, +ℤ-idr}
 use borrow.Author.Tests.{le-leb}
 use Rattle.numeric.specs.Sum.{sum}
 use Rattle.numeric.proofs.Expression.{v, _⊕_, _⊖_}
 use Rattle.numeric.proofs.Ring.{solve}
-use Rattle.numeric.proofs.SumLaws.{sum-eq, sum-zero, sum-change, sum-append, sum-telescope}
+use Rattle.numeric.proofs.SumLaws.{sum-eq, sum-zero, sum-change, sum-telescope}
 use Rattle.numeric.proofs.CheckLaws.{leb-within}
 use Rattle.stoichiometry.specs.declared.Set.{Set}
 use Rattle.stoichiometry.specs.Substances.{substances, Total, contents}
@@ -28,25 +28,6 @@ use Rattle.balance.specs.Held.{held}
 use Rattle.balance.proofs.CellTotals.{added, cell-added, cell-beside, cell-flow, step-keeps-cell}
 
 module _ (set : Set) (t : Total) where
-  -- One cell.
-  pub held-one : (a : List ℤ) (c : ℕ) → held set t a (suc c) (suc c) ≡ cellTotal set t a c
-  unfolding held sum
-  held-one a c =
-      let one : suc (suc c) - suc c ≡ 1 = omega arith in
-      let first : suc c - 1 + 0 ≡ c = omega arith in
-      rw (one, first) (+ℤ-idl (cellTotal set t a c))
-
-  -- Cells i to k and cells k + 1 to j.
-  pub held-cells : (a : List ℤ) (i k j : ℕ) → 1 ≤ i → i ≤ k → k ≤ j
-      → held set t a i j ≡ held set t a i k +ℤ held set t a (suc k) j
-  unfolding held
-  held-cells a i k j h l m =
-      let at : ℕ → ℤ = λ d. cellTotal set t a (i - 1 + d) in
-      ap (λ (n : ℕ). sum n at) (omega arith)
-      ∙ sum-append (suc k - i) (suc j - suc k) at
-      ∙ ap (λ (x : ℤ). sum (suc k - i) at +ℤ x)
-      (sum-eq (suc j - suc k) _ _ (λ d n. ap (cellTotal set t a) (omega arith)))
-
   -- Cells that hold the same.
   pub held-eq : (a b : List ℤ) (i j : ℕ) → 1 ≤ i
       → ((c : ℕ) → i ≤ suc c → c < j → cellTotal set t a c ≡ cellTotal set t b c) → held set t a i j ≡ held set t b i j

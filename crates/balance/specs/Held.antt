@@ -7,7 +7,6 @@ use Rattle.numeric.specs.Sum.{sum}
 use Rattle.stoichiometry.specs.declared.Set.{Set}
 use Rattle.stoichiometry.specs.Substances.{Total}
 use Rattle.river.specs.declared.River.{River}
-use Rattle.river.specs.Rivers.{zeroRiver}
 use Rattle.river.specs.Load.{loadAnswer}
 use Rattle.river.specs.Flow.{flowAnswer}
 use Rattle.river.specs.Air.{airAnswer}

@@ -1,27 +1,27 @@
 -- Bounds of what the rates of a cell are made of (specs/Rates.antt): rate constants, half-saturations and batch sizes of a set
 -- that check 2 passes, levels, products, q and extents. No assumptions.
-use Prim.Native.Nat.{ℕ, _+_, _*_, _/_, _≤_, _<_}
+use Prim.Native.Nat.{ℕ, _*_, _≤_, _<_}
 use mathlib.Core.Bool.{Bool, true, false, _&&_, cond}
-use mathlib.Core.List.{List, [], _∷_, _++_, map}
-use mathlib.Core.Path.{_≡_, refl, sym, ap, _∙_}
+use mathlib.Core.List.{List, [], _∷_}
+use mathlib.Core.Path.{_≡_}
 use native.Mathlib.Omega.{arith}
 use native.Mathlib.Nat.{mul-le-mul, div-le-of-le-mul}
 use borrow.Author.Tests.{leb-true, le-leb, not-false}
 use lib.Dec.{leb, lit<, lit≤}
-use lib.ListN.{length, getD, List·getD-map}
+use lib.ListN.{length, getD}
 use lib.IntN.{ℤ, natAbs}
 use Rattle.numeric.specs.Check.{allOf}
 use Rattle.numeric.proofs.CheckLaws.{and-left, and-right, allOf-at}
 use Rattle.numeric.proofs.TableLaws.{AtMost, done, _also_, at-most-at}
 use Rattle.stoichiometry.specs.declared.Set.{Set}
-use Rattle.stoichiometry.specs.Substances.{Organic, Substance, organic, nh4, no2, no3, hpo4, o2, xp, ss, xh, xn1, xn2, xalg, xs, place}
+use Rattle.stoichiometry.specs.Substances.{Organic, organic, nh4, no2, no3, hpo4, o2, xp, ss, xh, xn1, xn2, xalg, xs, place}
 use Rattle.stoichiometry.specs.Parameters.{inRange, yieldList, inertList, rateList, halfList, yieldsFit, constantsFit, figuresWrong}
 use Rattle.stoichiometry.specs.Rows.{processes, noProcess, processesOf, processAt}
 use Rattle.kinetics.specs.declared.Conditions.{Conditions}
-use Rattle.kinetics.specs.Factors.{monod, inhibition, product}
+use Rattle.kinetics.specs.Factors.{monod, inhibition}
 use Rattle.kinetics.specs.Rates.{Levels, levelsOf, takesPhosphate, takesNitrogen, productsOf, constantsOf, drivenBy, quota, extent}
 use Rattle.kinetics.specs.Ranges.{ConditionsFit, mostLevel, LevelsFit}
-use Rattle.kinetics.proofs.FactorLaws.{monod-bound, inhibition-bound, Factors, last, _then_, only-then, only-two-then, product-bound}
+use Rattle.kinetics.proofs.FactorLaws.{monod-bound, inhibition-bound, last, _then_, only-then, only-two-then, product-bound}
 
 -- What a list of figures that are all in a range says of each.
 listed : (low high : ℕ) (l : List ℕ) → allOf (inRange low high) l ≡ true → (i : ℕ) → i < length l

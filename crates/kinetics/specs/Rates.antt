@@ -1,15 +1,14 @@
 -- The rates of the 17 processes in one cell (scope, "One step"): levels, the factors of each process in the document's
 -- order, q and extents. A factor that drops is absent. Laws: proofs/. No assumptions.
 use Prim.Native.Nat.{ℕ, _+_, _*_, _/_}
-use mathlib.Core.Bool.{Bool, not, cond}
+use mathlib.Core.Bool.{Bool, cond}
 use mathlib.Core.List.{List, [], _∷_, _++_}
 use lib.ListN.{getD}
 use lib.IntN.{ℤ, pos, natAbs}
 use lib.Signed.{ltZ}
 use Rattle.stoichiometry.specs.declared.Set.{Set}
-use Rattle.stoichiometry.specs.Substances.{Substance, organic, ss, xh, xn1, xn2, xalg, xs, nh4, no2, no3, hpo4, o2, xp, place, grainsPerMicrogramO, grainsPerMicrogramN, grainsPerMicrogramP}
+use Rattle.stoichiometry.specs.Substances.{organic, ss, xh, xn1, xn2, xalg, xs, nh4, no2, no3, hpo4, o2, xp, place, grainsPerMicrogramO, grainsPerMicrogramN, grainsPerMicrogramP}
 use Rattle.stoichiometry.specs.Rows.{released, processAt, rowEntry}
-use Rattle.kinetics.specs.declared.Temperatures.{Temperatures}
 use Rattle.kinetics.specs.declared.Conditions.{Conditions}
 use Rattle.kinetics.specs.Factors.{monod, inhibition, product}
 

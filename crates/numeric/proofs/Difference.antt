@@ -4,7 +4,7 @@ use mathlib.Core.Path.{_≡_, refl, ap}
 use mathlib.Core.Bool.{Bool, true, false, not, cond}
 use Prim.Native.Nat.{ℕ, zero, suc, _+_, _-_, _*_, _≤_, _<_}
 use native.Mathlib.Omega.{arith}
-use lib.Dec.{T, ltb, leb, ltb→lt, nltb→le, leb→le, le→leb, lt→ltb}
+use lib.Dec.{T, ltb, ltb→lt, nltb→le, leb→le, le→leb, lt→ltb}
 use lib.IntN.{ℤ, pos, negsuc, negℤ, subℕ, _+ℤ_, _*ℤ_}
 use lib.Signed.{leZ, ltZ, _≤ℤ_, _<ℤ_}
 
@@ -47,9 +47,6 @@ dn-neg (suc n) = refl
 
 pub rep-self : (z : ℤ) → Rep z (up z) (dn z)
 rep-self z = record { is = refl }
-
-pub rep-pos : (k : ℕ) → Rep (pos k) k 0
-rep-pos k = record { is = refl }
 
 add-is : (x y : ℤ) → up (x +ℤ y) + (dn x + dn y) ≡ (up x + up y) + dn (x +ℤ y)
 add-is (pos a) (pos b) = omega arith

@@ -8,7 +8,7 @@ use Prim.Native.Nat.{ℕ, _+_, _*_, _≤_, _<_}
 use lib.ListN.{getD}
 use lib.IntN.{ℤ, pos, negℤ, _+ℤ_, _-ℤ_, _*ℤ_}
 use lib.Signed.{_≤ℤ_, _<ℤ_}
-use Rattle.numeric.proofs.Difference.{up, dn, Rep, rep-self, rep-add, rep-neg, rep-mul, rep-eq, eq-rep, rep-le, le-rep, rep-lt, lt-rep}
+use Rattle.numeric.proofs.Difference.{up, dn, Rep, rep-self, rep-add, rep-neg, rep-mul, rep-eq, rep-le, le-rep, rep-lt, lt-rep}
 
 infixl 6 _⊕_ _⊖_
 infixl 7 _⊗_
@@ -64,9 +64,6 @@ rep env (⊝ a) = rep-neg (rep env a)
 module _ (env : List ℤ) (e f : Ex) where
   pub equal : part true env e + part false env f ≡ part true env f + part false env e → eval env e ≡ eval env f
   equal h = rep-eq (rep env e) (rep env f) h
-
-  pub equal-of : eval env e ≡ eval env f → part true env e + part false env f ≡ part true env f + part false env e
-  equal-of h = eq-rep (rep env e) (rep env f) h
 
   pub at-most : part true env e + part false env f ≤ part true env f + part false env e → eval env e ≤ℤ eval env f
   at-most h = rep-le (rep env e) (rep env f) h

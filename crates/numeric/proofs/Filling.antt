@@ -10,7 +10,7 @@ use lib.Seq.{take-suc-set, take-all, getD-take, getD-set-same, getD-set-other, e
 use native.Mathlib.Numerals.{add-one}
 use native.Mathlib.Omega.{arith}
 use native.Mathlib.Decide.{decLt}
-use native.Mathlib.Nat.{add-zero, add-suc, lt-suc-self}
+use native.Mathlib.Nat.{add-zero, lt-suc-self}
 use Rattle.numeric.specs.Table.{tab, run}
 use Rattle.numeric.proofs.TableLaws.{tab-length, getD-tab}
 

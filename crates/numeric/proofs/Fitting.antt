@@ -1,7 +1,7 @@
 -- That an expression fits 64 bits, and bounds of it, by computation from a bound on each atom:
 -- `fit h e tt : SFits w64 (eval env e)`, `abs-under h e b tt : natAbs (eval env e) ≤ b`. No assumptions.
 use mathlib.Core.List.{List, [], _∷_}
-use Prim.Native.Nat.{ℕ, zero, suc, _+_, _*_, _^_, _≤_, _<_, zero-le}
+use Prim.Native.Nat.{ℕ, zero, suc, _+_, _*_, _^_, _≤_, zero-le}
 use native.Mathlib.Omega.{arith}
 use native.Mathlib.Nat.{le-refl, lt-of-le-of-lt}
 use lib.Dec.{T, ltb, leb, ltb→lt, leb→le}

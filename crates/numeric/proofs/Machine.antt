@@ -15,7 +15,7 @@ use mir.Syntax.{w64}
 use mir.Val.{SFits, toZ, ofZ}
 use mir.Facts.{toZ-ofZ}
 use borrow.Author.Needs.{sfits-of}
-use Rattle.numeric.proofs.Expression.{Ex, v, #, op, Operation, ⊝, apply, eval}
+use Rattle.numeric.proofs.Expression.{Ex, v, #, op, ⊝, apply, eval}
 use Rattle.numeric.proofs.Fitting.{Bounded, bound, fit}
 
 -- A signed number as the machine keeps it in a local and reads it back.

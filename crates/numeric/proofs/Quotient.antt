@@ -7,7 +7,7 @@ use native.Mathlib.Nat.{zero-div, mul-div-cancel-left, mul-add-div-right, div-ad
 use lib.IntN.{ℤ, pos, negsuc, negℤ, natAbs, _+ℤ_, _*ℤ_, negℤ-+ℤ}
 use lib.Signed.{quotZ, remZ, _≤ℤ_, _<ℤ_}
 use Rattle.numeric.specs.Rounding.{floorZ}
-use Rattle.numeric.proofs.Expression.{v, #, _⊕_, _⊗_, at-most, below}
+use Rattle.numeric.proofs.Expression.{v, _⊕_, _⊗_, at-most, below}
 use Rattle.numeric.proofs.Bounds.{abs-neg}
 use Rattle.numeric.proofs.RingLaws.{neg-*ℤ}
 

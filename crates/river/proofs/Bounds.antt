@@ -14,7 +14,7 @@ use Rattle.numeric.specs.Check.{every}
 use Rattle.numeric.specs.Table.{tab}
 use Rattle.numeric.proofs.Bounds.{abs-zero, abs-between, abs-of-nonneg}
 use Rattle.numeric.proofs.CheckLaws.{and-left, and-right, every-at}
-use Rattle.numeric.proofs.Comparison.{leZ-true, le-leZ, bits-eq}
+use Rattle.numeric.proofs.Comparison.{leZ-true, bits-eq}
 use Rattle.numeric.proofs.TableLaws.{getD-tab}
 use Rattle.stoichiometry.specs.Substances.{substances}
 use Rattle.river.specs.Rivers.{lowestAt, highestAt, amountFits}
@@ -49,10 +49,6 @@ module _ (s : ℕ) (x : ℤ) where
   pub fits-highest : amountFits s x ≡ true → x ≤ℤ highestAt s
   unfolding amountFits
   fits-highest e = leZ-true x (highestAt s) (and-right (leZ (lowestAt s) x) (leZ x (highestAt s)) e)
-
-  pub fits-from : lowestAt s ≤ℤ x → x ≤ℤ highestAt s → amountFits s x ≡ true
-  unfolding amountFits
-  fits-from l h = rw (le-leZ (lowestAt s) x l, le-leZ x (highestAt s) h)
 
 -- What fits is from −10^18 to 10^18.
 pub fits-bound : (s : ℕ) (x : ℤ) → s < substances → amountFits s x ≡ true → natAbs x ≤ 1000000000000000000

@@ -19,7 +19,7 @@ use Rattle.stoichiometry.specs.Rows.{processes}
 use Rattle.river.specs.declared.River.{River}
 use Rattle.river.specs.Rivers.{mostCells, lowestAt, highestAt, amountFits, amountAt, carryAt, amountsFit, carriesFit, cellsFit, riverWrong, zeroRiver}
 use Rattle.river.specs.Load.{cellExists, substanceExists}
-use Rattle.river.proofs.Bounds.{netAt, organicAt, fits-bound, fits-level, fits-organic}
+use Rattle.river.proofs.Bounds.{netAt, fits-bound, fits-level}
 
 -- The test of an amount and of a carry in a cell, and beyond the last cell.
 abbrev pub fitsAt : List ℤ → ℕ → ℕ → Bool
@@ -213,11 +213,6 @@ module _ (r : River) (right : riverWrong r ≡ false) where
   pub level-amount : (c s : ℕ) → c < r .cells → s < substances → netAt s ≡ false
       → (pos 0 ≤ℤ amountAt (r .amounts) c s) × (natAbs (amountAt (r .amounts) c s) ≤ 10000000000000000)
   level-amount c s h l n = fits-level s (amountAt (r .amounts) c s) l n (amount-fits-at c s h l)
-
-  -- An amount of an organic.
-  pub organic-amount : (c s : ℕ) → c < r .cells → s < substances → organicAt s ≡ true
-      → (pos 0 ≤ℤ amountAt (r .amounts) c s) × (natAbs (amountAt (r .amounts) c s) ≤ 1000000000)
-  organic-amount c s h l o = fits-organic s (amountAt (r .amounts) c s) l o (amount-fits-at c s h l)
 
   pub carry-fits-at : (c p : ℕ) → c < r .cells → p < processes → carryAt (r .carries) c p ≤ 999999
   carry-fits-at c p h l =

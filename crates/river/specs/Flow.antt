@@ -1,13 +1,13 @@
 -- Flow (scope, "Flow, air, load, and the book"): from each old amount a part passes down, the last cell's leaves; carries
 -- stay. No assumptions.
-use Prim.Native.Nat.{ℕ, zero, suc, _*_, _-_, _/_, _%_, _<_}
-use mathlib.Core.Bool.{Bool, not, cond}
+use Prim.Native.Nat.{ℕ, _*_, _-_, _/_}
+use mathlib.Core.Bool.{not, cond}
 use mathlib.Core.List.{List, [], _∷_}
 use lib.Dec.{leb, ltb, eqb}
 use lib.ListN.{getD, replicate}
 use lib.IntN.{ℤ, pos, _+ℤ_, _-ℤ_, _*ℤ_}
 use lib.Signed.{quotZ}
-use Rattle.numeric.specs.Check.{every, firstHolding, _when_}
+use Rattle.numeric.specs.Check.{firstHolding, _when_}
 use Rattle.numeric.specs.Table.{tab}
 use Rattle.stoichiometry.specs.Substances.{substances}
 use Rattle.river.specs.declared.River.{River}

@@ -1,10 +1,10 @@
 -- Load (scope, "Flow, air, load, and the book"): adds a whole number of either sign to one amount. No assumptions.
 use Prim.Native.Nat.{ℕ, _+_, _*_, _-_}
 use mathlib.Core.Bool.{Bool, not, _&&_, cond}
-use mathlib.Core.List.{List, [], _∷_}
+use mathlib.Core.List.{[], _∷_}
 use lib.Dec.{leb, eqb}
-use lib.ListN.{getD, set}
-use lib.IntN.{ℤ, pos, _+ℤ_}
+use lib.ListN.{set}
+use lib.IntN.{ℤ, _+ℤ_}
 use Rattle.numeric.specs.Check.{firstHolding, _when_}
 use Rattle.stoichiometry.specs.Substances.{substances}
 use Rattle.river.specs.declared.River.{River}

@@ -1,7 +1,7 @@
 -- The river (scope, "Units and substances" and "Numbers a caller may get"): the bounds of its amounts and carries, check 4,
 -- a fresh river, and the level of a substance. Laws: proofs/. No assumptions.
 use Prim.Native.Nat.{ℕ, _+_, _*_, _/_, _%_}
-use mathlib.Core.Bool.{Bool, not, _&&_, _||_, cond}
+use mathlib.Core.Bool.{Bool, not, _&&_, cond}
 use mathlib.Core.List.{List, [], _∷_, map}
 use lib.Dec.{leb, ltb, eqb}
 use lib.ListN.{getD, replicate}

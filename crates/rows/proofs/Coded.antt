@@ -1,15 +1,10 @@
 -- The code's arithmetic without a division gives the rows of Rows.antt: one identity for any weight of the substances
 -- (`others-weighted`), then entry for entry for the lines of the tables (`coded-entry`, `coded-oxygen`). No assumptions.
-use Prim.Native.Nat.{ℕ, zero, suc, _+_, _*_, _<_, _≤_}
-use mathlib.Core.Bool.{Bool, true, false, cond}
-use mathlib.Core.List.{List, [], _∷_, _++_}
-use mathlib.Core.Path.{_≡_, refl, sym, ap, ap₂, _∙_}
-use native.Mathlib.Omega.{arith}
-use lib.Dec.{eqb, lit<}
-use lib.ListN.{getD}
-use lib.IntN.{ℤ, pos, negℤ, _+ℤ_, _-ℤ_, _*ℤ_, +ℤ-idl, +ℤ-idr}
-use lib.Signed.{quotZ}
-use borrow.Author.Tests.{eq-eqb, ne-eqb}
+use Prim.Native.Nat.{_+_, _*_, _<_}
+use mathlib.Core.List.{List, [], _∷_}
+use mathlib.Core.Path.{_≡_, refl, ap₂, _∙_}
+use lib.Dec.{lit<}
+use lib.IntN.{ℤ, pos, negℤ, _+ℤ_, _-ℤ_, _*ℤ_}
 use Rattle.numeric.proofs.Expression.{Ex, v, #, _⊕_, _⊖_, _⊗_, ⊝, eval}
 use Rattle.numeric.proofs.Ring.{solve}
 use Rattle.rows.specs.declared.row.Released.{Released}

@@ -1,28 +1,22 @@
 -- Each process of Rows.antt against its line in the code's tables (specs/Code.antt): its organic changes, for any weight of
 -- an organic, and what it does besides its closure. The rows made of these lines: Coded.antt. No assumptions.
-use Prim.Native.Nat.{ℕ, zero, suc, _+_, _*_, _-_, _<_, _≤_}
-use mathlib.Core.Bool.{Bool, true, false, cond}
-use mathlib.Core.List.{List, [], _∷_, _++_}
-use mathlib.Core.Path.{_≡_, refl, sym, ap, ap₂, _∙_}
+use Prim.Native.Nat.{ℕ, _+_, _*_, _-_, _<_, _≤_}
+use mathlib.Core.Bool.{cond}
+use mathlib.Core.List.{List, [], _∷_}
+use mathlib.Core.Path.{_≡_, refl}
 use native.Mathlib.Omega.{arith}
 use native.Mathlib.Nat.{mul-le-mul, zero-add}
 use lib.Dec.{eqb, lit<}
-use lib.ListN.{getD, length}
-use lib.IntN.{ℤ, pos, negℤ, _+ℤ_, _-ℤ_, _*ℤ_, +ℤ-idl}
-use borrow.Author.Tests.{eq-eqb, ne-eqb}
-use Rattle.numeric.proofs.Expression.{Ex, v, #, _⊕_, _⊖_, _⊗_, ⊝, eval, equal}
+use lib.ListN.{getD}
+use lib.IntN.{ℤ, pos, negℤ, _+ℤ_, _-ℤ_, _*ℤ_}
+use Rattle.numeric.proofs.Expression.{Ex, v, #, _⊕_, _⊖_, _⊗_, eval, equal}
 use Rattle.numeric.proofs.Ring.{Same, solve}
 use Rattle.numeric.proofs.TableLaws.{Each, each-at}
-use Rattle.rows.specs.declared.row.Released.{Released}
 use Rattle.rows.specs.declared.row.Kind.{Kind}
-use Rattle.rows.specs.declared.row.Others.{Others}
-use Rattle.stoichiometry.specs.declared.Fractions.{Fractions}
 use Rattle.stoichiometry.specs.declared.Set.{Set}
-use Rattle.stoichiometry.specs.Substances.{substances, Organic, ss, si, xh, xn1, xn2, xalg, xs, xi, Substance, organic, nh4, no2, no3, hpo4, o2, hco3, hPlus, xp, h2o, n2, order, place, fractionsOf}
-use Rattle.stoichiometry.specs.Rows.{processes, Change, _by_, weighted, entry, releasedOf, released, closure, Nitrogen, ammonium, nitrate, nitrite, nitrogenAs, Further, none, ammoniumOxidised, nitriteOxidised, adsorbed, furtherBy, Acceptor, oxygen, nitrateToNitrite, nitriteToN2, nitrateToN2, acceptorFor, Process, noProcess, excess, oxygenChange, row, processesOf, processAt, rowEntry}
-use Rattle.rows.specs.Code.{Ranged, fractionTable, changesOf, kindTable, kindsOf, firstTable, secondTable, releasedPart, releasedBy, kindAt, fifteenthOf, othersOf, othersFrom, rowList, codedOthers}
-use Rattle.stoichiometry.proofs.Contents.{weighted-append, organicPart, weighted-organic}
-use Rattle.stoichiometry.proofs.Exact.{half-is, three-halves-is, fifteenth, oxygen-change-is, acceptor-is, nitrogenFifteenth, furtherFifteenth, closureFifteenth}
+use Rattle.stoichiometry.specs.Substances.{Organic, ss, si, xh, xn1, xn2, xalg, xs, xi}
+use Rattle.stoichiometry.specs.Rows.{processes, _by_, weighted, Nitrogen, ammonium, nitrate, nitrite, Further, none, ammoniumOxidised, nitriteOxidised, adsorbed, Acceptor, oxygen, nitrateToNitrite, nitriteToN2, nitrateToN2, Process, noProcess, processesOf, processAt}
+use Rattle.rows.specs.Code.{Ranged, changesOf, kindTable, kindsOf, firstTable, secondTable, kindAt}
 
 -- The number of an organic, 0 to 7, in the code's lines.
 abbrev pub index : Organic → ℕ

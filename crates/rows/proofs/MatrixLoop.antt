@@ -1,12 +1,10 @@
 -- The loop that fills all rows, on plain values: the organics that the tables name exist, a turn fills one row more, and
 -- what the loop leaves is the matrix of a set in range. No assumptions.
-use Prim.Native.Nat.{ℕ, _+_, _*_, _/_, _%_, _<_, _≤_}
-use mathlib.Core.Bool.{true}
+use Prim.Native.Nat.{ℕ, _+_, _*_, _/_, _%_, _<_}
 use mathlib.Core.List.{List}
-use mathlib.Core.Path.{_≡_, refl, ap, ap₂, _∙_}
+use mathlib.Core.Path.{_≡_, refl}
 use native.Mathlib.Omega.{arith}
-use native.Mathlib.Nat.{div-lt-iff-lt-mul}
-use lib.Dec.{ltb, lit<}
+use lib.Dec.{ltb}
 use lib.ListN.{getD}
 use lib.IntN.{ℤ, pos}
 use borrow.Author.Tests.{ltb-true}
@@ -18,7 +16,7 @@ use Rattle.numeric.proofs.TableLaws.{tab-eq}
 use Rattle.stoichiometry.specs.declared.Set.{Set}
 use Rattle.rows.specs.declared.row.Others.{Others}
 use Rattle.rows.specs.declared.matrix.Matrix.{Matrix}
-use Rattle.stoichiometry.specs.Rows.{processes, rowEntry, rowsOf}
+use Rattle.stoichiometry.specs.Rows.{processes, rowsOf}
 use Rattle.rows.specs.Code.{Ranged, fractionTable, changesOf, kindsOf, firstTable, secondTable, othersFrom, rowList, entryFrom, oxygenFrom, matrixOf}
 use Rattle.rows.proofs.RowEntries.{coded-entry, coded-oxygen}
 

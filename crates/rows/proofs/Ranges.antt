@@ -1,9 +1,9 @@
 -- What checks 1 and 2 give to the arithmetic of rows: a set that passes them is in range (`ranged`), and of a set in range
 -- the code's tables hold small numbers (`changes-small`, `kind-small`). No assumptions.
 use Prim.Native.Nat.{ℕ, _+_, _*_, _-_, _≤_, _<_}
-use mathlib.Core.Bool.{Bool, true, false, not, _&&_}
+use mathlib.Core.Bool.{true, false, _&&_}
 use mathlib.Core.List.{List, [], _∷_, _++_}
-use mathlib.Core.Path.{_≡_, sym, ap}
+use mathlib.Core.Path.{_≡_}
 use native.Mathlib.Omega.{arith}
 use native.Mathlib.Nat.{mul-le-mul, sub-le}
 use lib.Dec.{lit<, lit≤, leb}
@@ -19,7 +19,7 @@ use Rattle.stoichiometry.specs.Substances.{organics, ss, fractionsOf}
 use Rattle.stoichiometry.specs.Parameters.{addsUp, fractionsWrong, inRange, yieldList, inertList, yieldsFit, constantsFit, figuresWrong}
 use Rattle.stoichiometry.specs.Rows.{processes, Nitrogen, ammonium, nitrate, nitrite, Acceptor, oxygen, nitrateToNitrite, nitriteToN2, nitrateToN2, Process, noProcess, excess, processesOf, processAt}
 use Rattle.rows.specs.Code.{Ranged, Thousandths, SmallChanges, InKind, fractionTable, changesOf, kindsOf, kindAt}
-use Rattle.rows.proofs.Lines.{asNitrate, asNitrite, nh4Oxidised, no2Oxidised, hpo4Adsorbed, by-no3no2, by-no2n2, by-no3n2, Line, line, excess-is}
+use Rattle.rows.proofs.Lines.{asNitrate, asNitrite, nh4Oxidised, no2Oxidised, hpo4Adsorbed, by-no3no2, by-no2n2, by-no3n2, line, excess-is}
 
 in-range-le : (low high x : ℕ) → inRange low high x ≡ true → x ≤ high
 unfolding inRange

@@ -4,7 +4,7 @@
 use Prim.Native.Nat.{ℕ, _≤_, _<_, _*_, _+_, _^_}
 use native.Mathlib.Omega.{arith}
 use native.Mathlib.Nat.{add-zero}
-use mathlib.Core.Path.{_≡_, refl, _∙_}
+use mathlib.Core.Path.{_≡_, refl}
 use mathlib.Core.List.{List, [], _∷_}
 use lib.Signed.{mag}
 use lib.ListN.{getD}

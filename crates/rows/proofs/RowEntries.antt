@@ -17,10 +17,10 @@ use Rattle.stoichiometry.specs.declared.Set.{Set}
 use Rattle.rows.specs.declared.row.Others.{Others}
 use Rattle.stoichiometry.specs.Substances.{Organic, ss, si, xh, xn1, xn2, xalg, xs, xi, organics, Substance, organic, place, fractionsOf}
 use Rattle.stoichiometry.specs.Rows.{processes, Change, _by_, weighted, entry, released, closure, nitrogenAs, furtherBy, acceptorFor, oxygenChange, row, processAt, rowEntry}
-use Rattle.rows.specs.Code.{Ranged, fractionTable, changesOf, kindsOf, firstTable, secondTable, releasedPart, releasedBy, kindAt, fifteenthOf, othersOf, othersFrom, rowList, codedOthers}
+use Rattle.rows.specs.Code.{Ranged, fractionTable, changesOf, firstTable, secondTable, releasedPart, releasedBy, fifteenthOf, othersOf, othersFrom, rowList, codedOthers}
 use Rattle.stoichiometry.proofs.Contents.{weighted-append, weighted-organic}
 use Rattle.stoichiometry.proofs.Exact.{oxygen-change-is}
-use Rattle.rows.proofs.Lines.{index, kindOf, Line, line}
+use Rattle.rows.proofs.Lines.{index, kindOf, line}
 use Rattle.rows.proofs.Coded.{releasedOf, listed, others-weighted, fifteenth-is}
 
 abbrev unit : ℕ → ℕ → ℤ

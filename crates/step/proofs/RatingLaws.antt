@@ -1,19 +1,19 @@
 -- What the code of a cell's extents may use (specs/Rating.antt): uptake as it stands in the rows, conditions and levels in
 -- range after the checks, rate constants and batch sizes by place. No assumptions.
-use Prim.Native.Nat.{ℕ, _+_, _*_, _≤_, _<_}
-use mathlib.Core.Bool.{true, false}
+use Prim.Native.Nat.{ℕ, _*_, _≤_, _<_}
+use mathlib.Core.Bool.{false}
 use mathlib.Core.List.{List}
-use mathlib.Core.Path.{_≡_, refl, sym, ap, _∙_}
+use mathlib.Core.Path.{_≡_, sym, _∙_}
 use native.Mathlib.Omega.{arith}
 use borrow.Author.Tests.{ne-eqb}
 use lib.Dec.{lit<}
 use lib.ListN.{getD}
 use lib.IntN.{ℤ, pos}
-use lib.Signed.{ltZ, _≤ℤ_}
+use lib.Signed.{_≤ℤ_}
 use Rattle.numeric.specs.Table.{tab}
 use Rattle.numeric.proofs.TableLaws.{getD-tab, tab-eq}
 use Rattle.stoichiometry.specs.declared.Set.{Set}
-use Rattle.stoichiometry.specs.Substances.{substances, nh4, hpo4, hPlus, h2o, place}
+use Rattle.stoichiometry.specs.Substances.{nh4, hpo4, hPlus, h2o, place}
 use Rattle.stoichiometry.specs.Parameters.{figuresWrong}
 use Rattle.stoichiometry.specs.Rows.{processes, processAt, rowsOf}
 use Rattle.kinetics.specs.declared.Conditions.{Conditions}

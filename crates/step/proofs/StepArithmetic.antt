@@ -5,7 +5,7 @@ use mathlib.Core.Path.{_≡_, sym, ap, _∙_}
 use native.Mathlib.Omega.{arith}
 use lib.ListN.{getD}
 use borrow.Author.Tests.{lt-ltb, le-ltb}
-use lib.IntN.{ℤ, pos, natAbs, _+ℤ_, _*ℤ_, +ℤ-assoc}
+use lib.IntN.{ℤ, pos, natAbs, _+ℤ_, +ℤ-assoc}
 use Rattle.numeric.specs.Sum.{sum}
 use Rattle.numeric.proofs.Bounds.{abs-add, abs-mul-le}
 use Rattle.numeric.proofs.SumLaws.{sum-more, sum-bound}

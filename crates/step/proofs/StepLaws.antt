@@ -8,7 +8,7 @@ use native.Mathlib.Omega.{arith}
 use native.Mathlib.Decide.{decLt}
 use lib.Dec.{leb, ltb}
 use lib.ListN.{getD}
-use lib.IntN.{ℤ, pos, natAbs, _+ℤ_, _*ℤ_}
+use lib.IntN.{ℤ, pos, _+ℤ_, _*ℤ_}
 use lib.Signed.{leZ}
 use borrow.Author.Tests.{lt-ltb, le-ltb, leb-true, not-false}
 use Rattle.numeric.specs.Check.{every}
@@ -18,17 +18,16 @@ use Rattle.numeric.proofs.CheckLaws.{every-at, every-all}
 use Rattle.numeric.proofs.SumLaws.{sum-eq}
 use Rattle.numeric.proofs.TableLaws.{getD-tab, tab-eq}
 use Rattle.stoichiometry.specs.declared.Set.{Set}
-use Rattle.stoichiometry.specs.Substances.{substances}
-use Rattle.stoichiometry.specs.Parameters.{fractionsWrong, figuresWrong}
+use Rattle.stoichiometry.specs.Parameters.{figuresWrong}
 use Rattle.stoichiometry.specs.Rows.{processes, rowEntry, rowsOf}
 use Rattle.stoichiometry.proofs.Balance.{getD-rows}
 use Rattle.kinetics.specs.declared.Conditions.{Conditions}
 use Rattle.river.specs.declared.River.{River}
-use Rattle.river.specs.Rivers.{mostCells, amountAt, carryAt, riverWrong}
+use Rattle.river.specs.Rivers.{amountAt, carryAt, riverWrong}
 use Rattle.river.proofs.Rivers.{river-cells, amount-fits-at, amount-bound, carry-bound}
 use Rattle.step.specs.declared.cells.Batches.{Batches}
-use Rattle.step.specs.Steps.{batches, newCarry, newAmount, steppedAmounts, steppedCarries, conditionsWrong, batchesWrong}
-use Rattle.step.specs.Stepping.{Whole, Amounts, Carries, Going, addedFrom, newFrom, appliedFrom, wholeFrom, restFrom, batchesFrom}
+use Rattle.step.specs.Steps.{batches, newAmount, steppedAmounts, steppedCarries, conditionsWrong, batchesWrong}
+use Rattle.step.specs.Stepping.{Whole, Amounts, Going, addedFrom, newFrom, appliedFrom, wholeFrom, restFrom, batchesFrom}
 
 -- Two tests that hold together are one.
 same-test : (a b : Bool) → (a ≡ true → b ≡ true) → (b ≡ true → a ≡ true) → a ≡ b

@@ -1,9 +1,9 @@
 -- The number of a step, check by check, and its answer once the checks of what it was given are passed. No assumptions.
 use Prim.Native.Nat.{ℕ, zero, suc}
-use mathlib.Core.Bool.{Bool, true, false, not, cond}
+use mathlib.Core.Bool.{Bool, true, false}
 use mathlib.Core.Path.{_≡_, refl, ap, _∙_}
 use lib.Dec.{eqb·suc-zero}
-use Rattle.numeric.specs.Check.{firstHolding, _when_}
+use Rattle.numeric.specs.Check.{firstHolding}
 use Rattle.stoichiometry.specs.declared.Set.{Set}
 use Rattle.stoichiometry.specs.Parameters.{fractionsWrong, figuresWrong}
 use Rattle.stoichiometry.specs.Rows.{rowsOf}

@@ -10,7 +10,6 @@ use lib.Signed.{leZ, ltZ}
 use Rattle.numeric.specs.Check.{every, firstHolding, _when_}
 use Rattle.stoichiometry.specs.declared.RateConstants.{RateConstants}
 use Rattle.stoichiometry.specs.declared.HalfSaturations.{HalfSaturations}
-use Rattle.stoichiometry.specs.declared.GrowthRates.{GrowthRates}
 use Rattle.stoichiometry.specs.declared.Set.{Set}
 use Rattle.stoichiometry.specs.declared.Published.{Published}
 use Rattle.stoichiometry.specs.Substances.{place, nh4, hpo4, o2, hco3}

@@ -2,14 +2,14 @@
 -- of `putWithin` and `copied`. Sequences of writes go by `grow` and `store`. No assumptions.
 use Prim.Native.Nat.{ℕ, suc, _+_, _≤_, _<_}
 use mathlib.Core.Bool.{Bool, true, false, _&&_, cond}
-use mathlib.Core.List.{List, [], _∷_, _++_, append-assoc, append-nil}
+use mathlib.Core.List.{List, [], _∷_, _++_, append-assoc}
 use mathlib.Core.Path.{_≡_, refl, sym, ap, _∙_}
 use native.Mathlib.Nat.{add-zero, add-assoc}
 use native.Mathlib.Numerals.{add-one}
 use native.Mathlib.Omega.{arith}
-use borrow.Author.Tests.{le-leb, lt-leb, leb-true}
+use borrow.Author.Tests.{le-leb, lt-leb}
 use lib.Dec.{leb}
-use lib.ListN.{length, take, drop, set, getD, length-append, length-take, length-drop, take-append-drop, drop-of-length-le}
+use lib.ListN.{length, take, drop, set, getD, length-append, length-take, length-drop, take-append-drop}
 use lib.Seq.{set-split, take-set-le, take-at, drop-at, drop-drop, drop-append-add, length-take-le, take-suc}
 use Rattle.text.specs.Writes.{put, putWithin, copied}
 
@@ -82,11 +82,6 @@ put-before l at b xs h =
     ∙ ap (λ (t : List ℕ). take at l ++ t) (sym (append-assoc xs (b ∷ []) (drop (suc k) l)))
     ∙ ap (λ (n : ℕ). take at l ++ ((xs ++ (b ∷ [])) ++ drop n l)) e
 
--- A write over all of a list leaves nothing of it.
-pub put-whole : (l xs : List ℕ) → length xs ≡ length l → put l 0 xs ≡ xs
-unfolding put
-put-whole l xs h = ap (λ (t : List ℕ). xs ++ t) (drop-of-length-le l {i = 0 + length xs} (omega arith)) ∙ append-nil xs
-
 -- One write behind another, with the length of the first as a number.
 pub grow : (l l₁ : List ℕ) (at n m : ℕ) (xs ys : List ℕ) → length xs ≡ n → m ≡ at + n → at + n ≤ length l
     → l₁ ≡ put l at xs
@@ -112,14 +107,6 @@ put-within l at xs h = rw (le-leb (at + length xs) (length l) h) refl
 pub put-within-refused : (l : List ℕ) (at : ℕ) (xs : List ℕ) → length l < at + length xs → putWithin l at xs ≡ l
 unfolding putWithin
 put-within-refused l at xs h = rw (lt-leb (at + length xs) (length l) h) refl
-
-pub put-within-length : (l : List ℕ) (at : ℕ) (xs : List ℕ) → length (putWithin l at xs) ≡ length l
-unfolding putWithin
-put-within-length l at xs = go (leb (at + length xs) (length l)) refl
-  where
-    go : (t : Bool) → leb (at + length xs) (length l) ≡ t → length (cond t (put l at xs) l) ≡ length l
-    go true e = put-length l at xs (leb-true (at + length xs) (length l) e)
-    go false e = refl
 
 -- Both are long enough: the bytes are copied.
 pub copied-accepted : (from : List ℕ) (count : ℕ) (to : List ℕ) → count ≤ length from → count ≤ length to

@@ -1,18 +1,18 @@
 -- `step::apply::added` meets its contract. The loop's invariant: the total is the start and what the first p processes add;
 -- each adds at most 100,000 × 2.5 × 10^12, so that 17 of them and an amount fit 64 bits. No assumptions.
-use Prim.Native.Nat.{ℕ, _+_, _*_, _-_, _≤_, _<_}
-use mathlib.Core.List.{List, [], _∷_}
+use Prim.Native.Nat.{_+_, _*_, _-_, _≤_, _<_}
+use mathlib.Core.List.{[]}
 use mathlib.Core.Path.{_≡_, sym, ap, _∙_}
 use native.Mathlib.Omega.{arith}
 use lib.ListN.{getD}
-use lib.IntN.{ℤ, pos, natAbs, _+ℤ_, _*ℤ_, +ℤ-idr}
+use lib.IntN.{ℤ, pos, _+ℤ_, _*ℤ_, +ℤ-idr}
 use mir.Syntax.{w64}
-use mir.Val.{SFits, toZ}
+use mir.Val.{toZ}
 use mir.Facts.{toZ-ofZ}
 use Rattle.numeric.specs.Sum.{sum}
-use Rattle.numeric.proofs.Bounds.{fits-abs, abs-add, abs-mul-le}
+use Rattle.numeric.proofs.Bounds.{fits-abs}
 use Rattle.numeric.proofs.Machine.{kept, kept-is}
-use Rattle.numeric.proofs.SumLaws.{sum-none, sum-more, sum-bound}
+use Rattle.numeric.proofs.SumLaws.{sum-none}
 use Rattle.step.specs.Stepping.{addedFrom}
 use Rattle.step.proofs.StepArithmetic.{term-bound, total-bound, total-more}
 use Rattle.step.proofs.apply.added.Statement.{statement}

@@ -2,7 +2,7 @@
 -- No assumptions.
 use Prim.Native.Nat.{ℕ}
 use mathlib.Core.List.{append-assoc}
-use mathlib.Core.Path.{_≡_, sym, _∙_}
+use mathlib.Core.Path.{_≡_}
 use borrow.Author.Needs.{needs}
 use lib.Dec.{lit<}
 use lib.ListN.{getD}

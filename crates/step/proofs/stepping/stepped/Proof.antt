@@ -1,7 +1,6 @@
 -- `step::stepping::stepped` meets its contract: the batches, the amounts and the carries that were made are those of the
 -- definitions (proofs/StepLaws.antt), and each test is one of its cases. No assumptions.
-use mathlib.Core.Bool.{false}
-use mathlib.Core.Path.{_≡_, sym, ap, _∙_}
+use mathlib.Core.Path.{sym, ap, _∙_}
 use borrow.Author.Needs.{needs}
 use Rattle.river.specs.Rivers.{amountsFit}
 use Rattle.river.proofs.Rivers.{river-cells}

@@ -1,7 +1,7 @@
 -- Below zero the size is that of the negated entry, otherwise of the entry itself.
 use mathlib.Core.List.{[], _∷_}
 use native.Mathlib.Omega.{arith}
-use lib.IntN.{ℤ, pos, negℤ, natAbs}
+use lib.IntN.{ℤ, pos, negℤ}
 use lib.Signed.{_≤ℤ_, _<ℤ_, yes-nonNeg}
 use mir.Facts.{toZ-ofZ, fits-natAbs, sfits-lit}
 use borrow.Author.Needs.{needs}
