@@ -1,10 +1,10 @@
 -- What the inner functions of the step are held to: numbers in reach, and what one turn adds. Inner definitions; the step
 -- itself is Steps.antt. No assumptions.
 use Prim.Native.Nat.{ℕ, _+_, _*_, _/_, _%_, _≤_, _<_}
-use mathlib.Core.Bool.{true, false, cond}
-use mathlib.Core.List.{List}
+use mathlib.Core.Bool.{Bool, true, false, cond, _&&_}
+use mathlib.Core.List.{List, [], _∷_}
 use mathlib.Core.Path.{_≡_}
-use lib.Dec.{ltb}
+use lib.Dec.{leb, ltb}
 use lib.ListN.{getD}
 use lib.IntN.{ℤ, pos, natAbs, _+ℤ_, _*ℤ_}
 use Rattle.numeric.specs.Sum.{sum}
@@ -20,6 +20,16 @@ use Rattle.river.specs.Rivers.{mostCells, amountAt, carryAt, amountFits, amount
 use Rattle.step.specs.declared.cells.Batches.{Batches}
 use Rattle.step.specs.Steps.{batches, newCarry, steppedAmounts, stepped, conditionsWrong, batchesWrong}
 
+-- The processes that may change the substance at place s, counted from 0: from the first on, up to the end.
+abbrev pub firstOf : ℕ → ℕ
+firstOf s = getD (0 ∷ 0 ∷ 0 ∷ 3 ∷ 1 ∷ 0 ∷ 0 ∷ 0 ∷ 0 ∷ 0 ∷ 6 ∷ 8 ∷ 10 ∷ 13 ∷ 2 ∷ 15 ∷ 0 ∷ 4 ∷ []) s 0
+
+abbrev pub endOf : ℕ → ℕ
+endOf s = getD (15 ∷ 0 ∷ 15 ∷ 9 ∷ 12 ∷ 17 ∷ 15 ∷ 15 ∷ 15 ∷ 6 ∷ 8 ∷ 10 ∷ 14 ∷ 15 ∷ 14 ∷ 17 ∷ 15 ∷ 6 ∷ []) s 0
+
+abbrev pub changes : ℕ → ℕ → Bool
+changes p s = leb (firstOf s) p && ltb p (endOf s)
+
 -- Extents of one cell, carries, whole batches that passed check 7, entries of rows, amounts of a river: none too large.
 pub record Extents (extents : List ℕ) : Type 0 where
   pub most : (p : ℕ) → p < 17 → getD extents p 0 ≤ 4000000000000000
@@ -32,6 +42,7 @@ pub record Whole (whole : List ℤ) : Type 0 where
 
 pub record Entries (entries : List ℤ) : Type 0 where
   pub most : (k : ℕ) → k < 306 → natAbs (getD entries k (pos 0)) ≤ 2500000000000
+  pub none : (p s : ℕ) → p < 17 → s < 18 → changes p s ≡ false → getD entries (p * 18 + s) (pos 0) ≡ pos 0
 
 pub record Amounts (amounts : List ℤ) : Type 0 where
   pub most : (k : ℕ) → k < 144 → natAbs (getD amounts k (pos 0)) ≤ 1000000000000000000

@@ -1,73 +1,293 @@
-//! Nanoseconds per call, for rivers of one and eight cells: `speed [CALLS]`.
+//! Makes many calls of one kind on rivers of eight cells and prints one line, a
+//! checksum of the answers, for measuring the time of a call. It does what crate
+//! `speed` of the library does, turn by turn, so equal input gives equal output.
+//! Standard input is a letter for the kind and how many calls, as in `s 1000`.
+//!
+//! The library's calls hand a river in and a river back. The calls here change a
+//! river in place, so each is made on a copy: in both programs the river that a
+//! call is made on is still there after it.
 
 use reference::record::{self, CELL_BYTES};
-use reference::{check, rows, step, totals, Halves, Rates, River, Set, Stepper, Temperature};
+use reference::river::{CARRIES, CELLS};
+use reference::rows::rows;
+use reference::substances::SUBSTANCES;
+use reference::{step, Amounts, Frame, Halves, Oxygen, Rates, River, Set, Temperature, Yields};
 use std::hint::black_box;
-use std::time::Instant;
+use std::io::Read;
+
+/// Rivers, and sets, that are taken in turn.
+const PREPARED: usize = 8;
+/// Bytes of a record of eight cells.
+const BYTES: usize = CELLS * CELL_BYTES;
+/// No more calls than this are made: from there on a digit changes nothing.
+const MOST: u64 = 1_000_000_000;
 
 fn main() {
-    let calls = std::env::args().nth(1).and_then(|text| text.parse().ok()).unwrap_or(200_000);
+    let mut text = Vec::new();
+    std::io::stdin().read_to_end(&mut text).expect("standard input can be read");
+    let digits = text.iter().skip(1).filter(|byte| byte.is_ascii_digit());
+    let calls =
+        digits.fold(
+            0,
+            |calls, byte| {
+                if calls >= MOST {
+                    calls
+                } else {
+                    calls * 10 + u64::from(byte - b'0')
+                }
+            },
+        );
+    println!("{}", checksum(text.first().copied().unwrap_or(b'n'), calls));
+}
+
+/// The checksum of so many calls of a kind; 0 for a letter of no kind.
+fn checksum(kind: u8, calls: u64) -> u64 {
+    match kind {
+        b's' => steps(calls),
+        b'f' => flows(calls),
+        b'a' => airs(calls),
+        b'l' => loads(calls),
+        b'r' => rows_of_sets(calls),
+        b'w' => writes(calls),
+        b'R' => reads(calls),
+        b'p' => frames(calls),
+        b'n' => turns(calls),
+        _ => 0,
+    }
+}
+
+fn turns(calls: u64) -> u64 {
+    let rivers = rivers();
+    let mut sum = 0;
+    for turn in 0..calls {
+        let river = black_box(&rivers[in_turn(turn)]);
+        sum = with(sum, river.cells.into());
+    }
+    sum
+}
+
+fn steps(calls: u64) -> u64 {
+    let (sets, rivers) = (sets(), rivers());
+    let mut sum = 0;
+    for turn in 0..calls {
+        let k = in_turn(turn);
+        let mut river = black_box(&rivers[k]).clone();
+        let seconds = (50 + turn % 16) as u32;
+        let warmth = (1_000_000 + turn % 1_000) as u32;
+        let light = (500_000 + turn % 1_000) as u32;
+        let temperature = Temperature::from([warmth; 5]);
+        let number = step(black_box(&sets[k]), &mut river, seconds, light, &temperature);
+        sum = with_river(with(sum, number.into()), black_box(&river), turn);
+    }
+    sum
+}
+
+fn flows(calls: u64) -> u64 {
+    let rivers = rivers();
+    let mut sum = 0;
+    for turn in 0..calls {
+        let mut river = black_box(&rivers[in_turn(turn)]).clone();
+        let (number, left) = river.flow((turn % 10_001) as u32);
+        sum = with_river(with(sum, number.into()), black_box(&river), turn);
+        sum = with_amounts(sum, black_box(&left), turn);
+    }
+    sum
+}
+
+fn airs(calls: u64) -> u64 {
+    let rivers = rivers();
+    let mut sum = 0;
+    for turn in 0..calls {
+        let mut river = black_box(&rivers[in_turn(turn)]).clone();
+        let (number, added) = river.air(
+            (1 + turn / 8 % 8) as u32,
+            (turn % 20_001) as u32,
+            (1 + turn % 3_600) as u32,
+            (8_000_000 + turn % 4_000_000) as u32,
+        );
+        sum = with(with(sum, number.into()), added as u64);
+        sum = with_river(sum, black_box(&river), turn);
+    }
+    sum
+}
+
+fn loads(calls: u64) -> u64 {
+    let rivers = rivers();
+    let mut sum = 0;
+    for turn in 0..calls {
+        let mut river = black_box(&rivers[in_turn(turn)]).clone();
+        let size = (1 + turn % 1_000) as i64;
+        let number = river.load(
+            (1 + turn / 8 % 8) as u32,
+            (1 + turn % 18) as u32,
+            if turn % 2 == 0 { size } else { -size },
+        );
+        sum = with_river(with(sum, number.into()), black_box(&river), turn);
+    }
+    sum
+}
+
+fn rows_of_sets(calls: u64) -> u64 {
+    let sets = sets();
+    let mut sum = 0;
+    for turn in 0..calls {
+        let (number, entries) = rows(black_box(&sets[in_turn(turn)]));
+        let entries = black_box(&entries);
+        let k = (turn % 153) as usize;
+        sum = with(sum, number.into());
+        sum = with(sum, entries[k] as u64);
+        sum = with(sum, entries[k + 153] as u64);
+    }
+    sum
+}
+
+fn writes(calls: u64) -> u64 {
+    let rivers = rivers();
+    let (mut output, mut work) = ([0; BYTES], [0; BYTES]);
+    let mut sum = 0;
+    for turn in 0..calls {
+        let river = black_box(&rivers[in_turn(turn)]);
+        let number = record::write(river, &mut output, &mut work);
+        sum = with(sum, number.into());
+        sum = with_text(sum, black_box(&output), turn);
+        sum = with_text(sum, black_box(&work), turn);
+    }
+    sum
+}
+
+fn reads(calls: u64) -> u64 {
+    let texts = rivers().map(|river| {
+        let (mut output, mut work) = ([0; BYTES], [0; BYTES]);
+        record::write(&river, &mut output, &mut work);
+        output
+    });
+    let mut sum = 0;
+    for turn in 0..calls {
+        let (number, river) = record::read(black_box(&texts[in_turn(turn)]));
+        sum = with_river(with(sum, number.into()), black_box(&river), turn);
+    }
+    sum
+}
+
+fn frames(calls: u64) -> u64 {
+    let readings = readings();
+    let mut sum = 0;
+    for turn in 0..calls {
+        let frame = black_box(frame(&readings, turn));
+        let (number, amounts) = frame.amounts((8_000_000 + turn % 4_000_000) as u32);
+        sum = with_frame(with(sum, number.into()), &amounts);
+    }
+    sum
+}
+
+/// The place of what a turn takes.
+fn in_turn(turn: u64) -> usize {
+    (turn % PREPARED as u64) as usize
+}
+
+/// The checksum with one number more. It is turned by a bit first, so that the
+/// order of the numbers counts.
+fn with(sum: u64, number: u64) -> u64 {
+    sum.rotate_left(1).wrapping_add(number)
+}
+
+/// With the amounts of one substance in all cells.
+fn with_amounts(sum: u64, amounts: &[i64], turn: u64) -> u64 {
+    let first = (turn % 18) as usize;
+    amounts[first..].iter().step_by(SUBSTANCES).fold(sum, |sum, &amount| with(sum, amount as u64))
+}
+
+/// With the amounts of one substance and one carry.
+fn with_river(sum: u64, river: &River, turn: u64) -> u64 {
+    let carry = river.carries[(turn % CARRIES as u64) as usize];
+    with(with_amounts(sum, &river.amounts, turn), carry.into())
+}
+
+/// With one byte of each cell.
+fn with_text(sum: u64, text: &[u8; BYTES], turn: u64) -> u64 {
+    let first = (turn % CELL_BYTES as u64) as usize;
+    text[first..].iter().step_by(CELL_BYTES).fold(sum, |sum, &byte| with(sum, byte.into()))
+}
+
+/// With every amount of a frame.
+fn with_frame(sum: u64, amounts: &Amounts) -> u64 {
+    let Amounts { nh4, no2, no3, hpo4, oxygen } = *amounts;
+    let sum = [nh4, no2, no3, hpo4].iter().fold(sum, |sum, &amount| with(sum, amount as u64));
+    with(sum, oxygen.unwrap_or(1) as u64)
+}
+
+/// Rivers of eight cells with all organisms at work, of which no step above runs
+/// dry.
+fn rivers() -> [River; PREPARED] {
+    std::array::from_fn(|r| {
+        let (_, mut river) = River::fresh(CELLS as u32);
+        for (k, amount) in river.amounts.iter_mut().enumerate() {
+            let more = (k + r * 1_000) as i64;
+            *amount = match k % SUBSTANCES {
+                0 | 1 | 9..=14 => 50_000_000 + more * 1_000,
+                8 | 16 => -1_000_000_007 * more,
+                _ => 100_000_000_000_000 + more * 1_000_003,
+            };
+        }
+        for (k, carry) in river.carries.iter_mut().enumerate() {
+            *carry = ((k + r * 1_000) * 7_919 % 1_000_000) as u32;
+        }
+        river
+    })
+}
+
+/// The published set with rate constants at which every process makes whole
+/// batches, and with other yields and half-saturations in each set.
+fn sets() -> [Set; PREPARED] {
     let rates = Rates::from([
-        2_000, 200, 1_600, 100, 800, 50, 1_100, 50, 2_000, 2_000, 100, 100, 3_000, 500, 400,
+        2_000, 200, 1_600, 1_000, 800, 50, 1_100, 50, 2_000, 2_000, 100, 2_000, 3_000, 500, 400,
     ]);
-    let halves = Halves::from([200_000; 19]);
-    let (_, set) = Set::published(rates, halves);
-    let warmth = Temperature::from([1_000_000; 5]);
+    std::array::from_fn(|i| {
+        let i = i as u32;
+        let (_, set) = Set::published(rates, Halves::from([200_000 + i; 19]));
+        let yields = [60 + i, 50 + i, 30 + i, 13 + i, 3 + i, 62, 100];
+        Set { yields: Yields::from(yields), ..set }
+    })
+}
 
-    time("check of a set", calls, || black_box(check(black_box(&set))));
-    time("rows", calls, || black_box(rows(black_box(&set))).0);
-    for cells in [1, 8] {
-        println!("{cells} cells");
-        let river = filled(cells);
-        let mut moving = river.clone();
-        time("river copied", calls, || {
-            moving.clone_from(black_box(&river));
-            moving.cells
-        });
-        time("step", calls, || {
-            moving.clone_from(&river);
-            step(black_box(&set), &mut moving, 60, 500_000, &warmth)
-        });
-        let stepper = Stepper::new(&set).expect("the published set is accepted");
-        time("step, rows made", calls, || {
-            moving.clone_from(&river);
-            stepper.step(black_box(&mut moving), 60, 500_000, &warmth)
-        });
-        time("flow", calls, || {
-            moving.clone_from(&river);
-            black_box(moving.flow(black_box(1_234))).0
-        });
-        time("air", calls, || black_box(moving.air(1, 2_000, 60, 10_000_000)).0);
-        time("load", calls, || black_box(&mut moving).load(1, 7, 1));
-        time("totals", calls, || black_box(totals(&set, black_box(&river), 1)).0);
-        let (mut output, mut work) = ([0; 8 * CELL_BYTES], [0; 8 * CELL_BYTES]);
-        time("record write", calls / 10, || record::write(&river, &mut output, &mut work));
-        let text = &output[..cells as usize * CELL_BYTES];
-        time("record read", calls / 10, || black_box(record::read(black_box(text))).0);
+/// Readings as a probe gives them, g/m³.
+fn readings() -> [f32; 16] {
+    [0.7, 0.5, 3.2, 0.1, 9.15, 1.0, 0.25, 12.5, 0.002, 0.3, 14.6, 255.0, 100.0, 50.0, 87.5, 2.2]
+}
+
+/// The frame of a turn; its oxygen is a mass, a percentage and missing in turn.
+fn frame(readings: &[f32; 16], turn: u64) -> Frame {
+    let k = (turn % 12) as usize;
+    let reading = readings[k + 4];
+    Frame {
+        nh4: readings[k],
+        no2: readings[k + 1],
+        no3: readings[k + 2],
+        po4: readings[k + 3],
+        oxygen: match turn % 3 {
+            0 => Oxygen::Mass(reading),
+            1 => Oxygen::Percent(reading),
+            _ => Oxygen::Missing,
+        },
     }
 }
 
-/// A river with all organisms at work, which no step below runs dry.
-fn filled(cells: u32) -> River {
-    let (_, mut river) = River::fresh(cells);
-    for (i, amount) in river.amounts[..cells as usize * 18].iter_mut().enumerate() {
-        *amount = match i % 18 {
-            0 | 1 | 9..=14 => 1_000_000 + 1_000 * i as i64,
-            8 | 16 => -1_000_000_007 * i as i64,
-            _ => 100_000_000_000_000 + 1_000_003 * i as i64,
-        };
-    }
-    river
-}
+#[cfg(test)]
+mod tests {
+    use super::*;
 
-/// Makes the calls, each of which must answer the same number.
-fn time(what: &str, calls: u32, mut call: impl FnMut() -> u32) {
-    let first = call();
-    let start = Instant::now();
-    let mut same = true;
-    for _ in 0..calls {
-        same &= call() == first;
+    /// A refused call would be measured as a fast one.
+    #[test]
+    fn every_river_steps_under_every_set() {
+        for set in &sets() {
+            for river in &rivers() {
+                for (seconds, warmth) in [(50, 1_000_000), (65, 1_000_999)] {
+                    let temperature = Temperature::from([warmth; 5]);
+                    let mut after = river.clone();
+                    assert_eq!(step(set, &mut after, seconds, 500_999, &temperature), 0);
+                    assert_ne!(&after, river);
+                }
+            }
+        }
     }
-    let each = start.elapsed().as_nanos() as f64 / f64::from(calls);
-    println!("{what:18} {each:9.1} ns, number {first}{}", if same { "" } else { " (not always)" });
 }

@@ -1,6 +1,8 @@
--- `step::apply::added` meets its contract. The loop's invariant: the total is the start and what the first p processes add;
+-- `step::apply::added` meets its contract. The loop's invariant: the total is the start and what the first p processes add,
+-- of which none before `first` and none from `end` on adds anything;
 -- each adds at most 100,000 × 2.5 × 10^12, so that 17 of them and an amount fit 64 bits. No assumptions.
-use Prim.Native.Nat.{_+_, _*_, _-_, _≤_, _<_}
+use Prim.Native.Nat.{ℕ, _+_, _*_, _-_, _≤_, _<_}
+use native.Mathlib.Nat.{lt-of-lt-of-le}
 use mathlib.Core.List.{[]}
 use mathlib.Core.Path.{_≡_, sym, ap, _∙_}
 use native.Mathlib.Omega.{arith}
@@ -12,41 +14,52 @@ use mir.Facts.{toZ-ofZ}
 use Rattle.numeric.specs.Sum.{sum}
 use Rattle.numeric.proofs.Bounds.{fits-abs}
 use Rattle.numeric.proofs.Machine.{kept, kept-is}
-use Rattle.numeric.proofs.SumLaws.{sum-none}
-use Rattle.step.specs.Stepping.{addedFrom}
+use Rattle.step.specs.Stepping.{endOf, addedFrom}
+use Rattle.step.proofs.RowZeros.{range-known, none-before, none-after}
 use Rattle.step.proofs.StepArithmetic.{term-bound, total-bound, total-more}
 use Rattle.step.proofs.apply.added.Statement.{statement}
 use Rattle.step.proofs.apply.added.Tie as tie
 
 abbrev Inv-loop : tie.InvT-loop
-Inv-loop start whole at entries s total₀ p₀ total p = (p ≤ 17) × (toZ w64 total ≡ toZ w64 start +ℤ sum p (λ q. addedFrom whole at entries s q))
+Inv-loop start whole at entries s first end total₀ p₀ total p =
+    (p ≤ end) × (toZ w64 total ≡ toZ w64 start +ℤ sum p (λ q. addedFrom whole at entries s q))
 
 abbrev μ-loop : tie.MeasureT-loop
-μ-loop start whole at entries s total₀ p₀ total p = 17 - p
+μ-loop start whole at entries s first end total₀ p₀ total p = end - p
+
+-- There are no processes from the end on but the 17.
+top : (c : tie.Start Inv-loop μ-loop) → c .args .end ≤ 17
+top c = omega (arith, range-known (c .args .s) (c .pre .2) .1, c .pre .6)
 
 loop-holds : tie.Need-loop-holds Inv-loop μ-loop
-loop-holds c = (omega arith, sym (ap (λ (z : ℤ). kept (c .args .start) +ℤ z) (sum-none _) ∙ +ℤ-idr (kept (c .args .start))))
+loop-holds c =
+    let range = range-known (c .args .s) (c .pre .2) in
+    let none = ap (λ (n : ℕ). sum n (addedFrom (c .args .whole .now) (c .args .at) (c .args .entries .now) (c .args .s))) (c .pre .5)
+    ∙ none-before (c .args .whole .now) (c .args .at) (c .args .entries .now) (c .args .s) (c .pre .4) (c .pre .2) in (
+      omega (arith, range .0, c .pre .5, c .pre .6),
+      sym (ap (λ (z : ℤ). kept (c .args .start) +ℤ z) none ∙ +ℤ-idr (kept (c .args .start))),
+    )
 
 add-total : tie.Need-add-total Inv-loop μ-loop
-add-total c = omega arith
+add-total c = omega (arith, top (c .before .before))
 
 mul-total : tie.Need-mul-total Inv-loop μ-loop
-mul-total c = omega arith
+mul-total c = omega (arith, top (c .before .before))
 
 element-copy-out-total : tie.Need-element-copy-out-total Inv-loop μ-loop
-element-copy-out-total c = omega arith
+element-copy-out-total c = omega (arith, top (c .before .before))
 
 mul-total-2 : tie.Need-mul-total-2 Inv-loop μ-loop
-mul-total-2 c = omega arith
+mul-total-2 c = omega (arith, top (c .before .before .before))
 
 add-total-2 : tie.Need-add-total-2 Inv-loop μ-loop
-add-total-2 c = omega arith
+add-total-2 c = omega (arith, top (c .before .before .before))
 
 mul-total-3 : tie.Need-mul-total-3 Inv-loop μ-loop
-mul-total-3 c = omega arith
+mul-total-3 c = omega (arith, top (c .before .before .before))
 
 element-copy-out-total-2 : tie.Need-element-copy-out-total-2 Inv-loop μ-loop
-element-copy-out-total-2 c = omega arith
+element-copy-out-total-2 c = omega (arith, top (c .before .before .before))
 
 mul-total-4 : tie.Need-mul-total-4 Inv-loop μ-loop
 mul-total-4 c =
@@ -54,7 +67,7 @@ mul-total-4 c =
     let at-loop = entered .before in
     let start = at-loop .before in
     let p = at-loop .loop .p in
-    let below : p < 17 = entered .loop-test .taken in
+    let below : p < 17 = lt-of-lt-of-le (entered .loop-test .taken) (top start) in
     let whole = start .args .whole .now in
     let entries = start .args .entries .now in
     let x = getD whole (start .args .at + p) (pos 0) in
@@ -70,7 +83,7 @@ add-total-3 c =
     let at-loop = entered .before in
     let start = at-loop .before in
     let p = at-loop .loop .p in
-    let below : p < 17 = entered .loop-test .taken in
+    let below : p < 17 = lt-of-lt-of-le (entered .loop-test .taken) (top start) in
     let whole = start .args .whole .now in
     let entries = start .args .entries .now in
     let x = getD whole (start .args .at + p) (pos 0) in
@@ -96,7 +109,7 @@ loop-again c =
     let at-loop = entered .before in
     let start = at-loop .before in
     let p = at-loop .loop .p in
-    let below : p < 17 = entered .loop-test .taken in
+    let below : p < 17 = lt-of-lt-of-le (entered .loop-test .taken) (top start) in
     let whole = start .args .whole .now in
     let entries = start .args .entries .now in
     let x = getD whole (start .args .at + p) (pos 0) in
@@ -116,8 +129,10 @@ returns : tie.Need-returns Inv-loop μ-loop
 returns c =
     let at-loop = c .before in
     let start = at-loop .before in
-    let finished : at-loop .loop .p ≡ 17 = omega arith in
-    rw (at-loop .loop .inv .1, toZ-ofZ (start .fits .start), finished)
+    let args = start .args in
+    let finished : at-loop .loop .p ≡ endOf (args .s) = omega (arith, start .pre .6) in
+    let all = none-after (args .whole .now) (args .at) (args .entries .now) (args .s) (start .pre .4) (start .pre .2) in
+    rw (at-loop .loop .inv .1, toZ-ofZ (start .fits .start), finished) (ap (λ (z : ℤ). args .start +ℤ z) (sym all))
 
 pub added-spec : {M : Type 1} → statement M
 added-spec =

@@ -6,6 +6,7 @@ use Rattle.river.specs.Rivers.{amountsFit}
 use Rattle.river.proofs.Rivers.{river-cells}
 use Rattle.rows.proofs.EntryBounds.{rows-bound}
 use Rattle.step.specs.Stepping.{steppedAnswer}
+use Rattle.step.proofs.RowZeros.{rows-none}
 use Rattle.step.proofs.StepLaws.{amounts-small, going, made-carries, made-number, made-small, made-amounts}
 use Rattle.step.proofs.stepping.stepped.Statement.{statement}
 use Rattle.step.proofs.stepping.stepped.Tie as tie
@@ -55,7 +56,7 @@ applied-requires c κs =
       river-cells r (ready .river) .1,
       amounts-small set given r (ready .river),
       made-small set given r (ready .river) (made .batches-of .result) (made .batches-of .ensures) few,
-      rw (ready .rows) (record { most = λ k h. rows-bound set (ready .fractions) (ready .figures) k }),
+      rw (ready .rows) (record { most = λ k h. rows-bound set (ready .fractions) (ready .figures) k; none = rows-none set }),
     )
 
 amounts-in-bounds-requires : tie.Need-amounts-in-bounds-requires

@@ -1,0 +1,56 @@
+// The checksum of answers. What it takes of an answer depends on the turn, so that no part of it can be left out.
+use river::AMOUNTS;
+use river::CARRIES;
+use std::num::wrapping_add_u64;
+use std::num::wrapping_sub_u64;
+use stoichiometry::SUBSTANCES;
+
+// No number of an answer is further from 0 than this.
+const MOST: i64 = 9000000000000000000;
+
+// The checksum with one number more. It is turned by a bit first, so that the order of the numbers counts.
+pub(crate) fn with(sum: u64, number: u64) -> u64 {
+    let turned = wrapping_add_u64(wrapping_add_u64(sum, sum), sum >> 63);
+    wrapping_add_u64(turned, number)
+}
+
+// A number without its sign.
+fn size(x: i64) -> u64 {
+    if x < -MOST {
+        return u64::MAX;
+    }
+    if MOST < x {
+        return u64::MAX;
+    }
+    if x < 0 { (-x) as u64 } else { x as u64 }
+}
+
+// The checksum with one signed number more, modulo 2^64.
+pub(crate) fn with_signed(sum: u64, x: i64) -> u64 {
+    if x < 0 {
+        with(sum, wrapping_sub_u64(0, size(x)))
+    } else {
+        with(sum, size(x))
+    }
+}
+
+// With the amounts of one substance in all cells.
+pub(crate) fn with_amounts(sum: u64, amounts: &[i64; AMOUNTS], turn: u64) -> u64 {
+    let mut with_all = sum;
+    let mut k = (turn % 18) as usize;
+    while k < AMOUNTS {
+        with_all = with_signed(with_all, amounts[k]);
+        k += SUBSTANCES;
+    }
+    with_all
+}
+
+pub(crate) fn wide(x: u32) -> u64 {
+    x as u64
+}
+
+// With one carry.
+pub(crate) fn with_carry(sum: u64, carries: &[u32; CARRIES], turn: u64) -> u64 {
+    let k = (turn % 136) as usize;
+    with(sum, wide(carries[k]))
+}

@@ -1,0 +1,63 @@
+-- `step::apply::apply_one` meets its contract: one amount is stored. No assumptions.
+use Prim.Native.Nat.{_+_, _*_}
+use mathlib.Core.Path.{ap, _∙_}
+use native.Mathlib.Omega.{arith}
+use lib.IntN.{ℤ, pos, _+ℤ_}
+use lib.ListN.{getD, set}
+use Rattle.numeric.specs.Sum.{sum}
+use Rattle.numeric.proofs.Machine.{kept-is}
+use Rattle.step.specs.Stepping.{addedFrom}
+use borrow.Author.Needs.{needs}
+use Rattle.step.proofs.apply.apply_one.Statement.{statement}
+use Rattle.step.proofs.apply.apply_one.Tie as tie
+
+mul-k : tie.Need-mul-k
+mul-k c = search needs
+
+add-k : tie.Need-add-k
+add-k c = search needs
+
+mul-added : tie.Need-mul-added
+mul-added c = search needs
+
+element-copy-out-added : tie.Need-element-copy-out-added
+element-copy-out-added c = search needs
+
+mul-added-2 : tie.Need-mul-added-2
+mul-added-2 c = search needs
+
+added-requires : tie.Need-added-requires
+added-requires c κs =
+    let start = c .before in
+    let k = start .args .c * 18 + start .args .s in
+    let pre = start .pre in
+    (rw (kept-is (getD (start .args .amounts .now) k (pos 0)) (c .added-arg .given)) (pre .1 .most k (omega arith)), omega arith, pre .4, pre .2, pre .3, pre .5, pre .6)
+
+mul-t16 : tie.Need-mul-t16
+mul-t16 c = search needs
+
+element-set-from-out : tie.Need-element-set-from-out
+element-set-from-out c = search needs
+
+returns : tie.Need-returns
+returns c =
+    let start = c .before .before in
+    let args = start .args in
+    let k = args .c * 18 + args .s in
+    let amount = kept-is (getD (args .amounts .now) k (pos 0)) (c .before .added-arg .given) in
+    let more = sum 17 (λ p. addedFrom (args .whole .now) (args .c * 17) (args .entries .now) (args .s) p) in
+    ap (set (args .out .now) k) (kept-is (c .added .result) (c .added .ok) ∙ c .added .ensures ∙ ap (λ (z : ℤ). z +ℤ more) amount)
+
+pub apply-one-spec : {M : Type 1} → statement M
+apply-one-spec =
+    tie.close
+    (tie.spec
+    mul-k
+    add-k
+    mul-added
+    element-copy-out-added
+    mul-added-2
+    added-requires
+    mul-t16
+    element-set-from-out
+    returns)
