@@ -53,8 +53,8 @@ fn apply_one(
     out[k] = added(amounts[k], whole, c * PROCESSES, entries, s, first, end);
 }
 
-// The new amounts of cell c, substance by substance: place, first process and end are written out, so that each sum has a
-// fixed length.
+// The new amounts of cell c, substance by substance, SS to N2: place, first process and end are written out, so that each sum
+// has a fixed length.
 pub(crate) fn apply_cell(
     amounts: &[i64; AMOUNTS],
     whole: &[i64; CARRIES],
