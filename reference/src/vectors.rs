@@ -22,7 +22,7 @@
 //! | `D` | record read | the river read |
 //! | `I` cell | lines of a cell | how many bytes, the bytes |
 //!
-//! `G` and 83 figures give the set ([`scene::set_of`] has their order). A river in a
+//! `G` and 83 figures give the set ([`figures::set_of`] has their order). A river in a
 //! digest is its cells, all 144 amounts and all 136 carries. Before `W` the output
 //! is filled with 35, the work area with 42.
 //!
@@ -41,6 +41,7 @@
 //! | `l` length | the text's length |
 
 pub mod digest;
+pub mod figures;
 mod frames;
 mod lasting;
 mod limits;
@@ -49,6 +50,7 @@ mod rivers;
 pub mod scene;
 mod sets;
 mod steps;
+mod text;
 
 use scene::Scene;
 

@@ -2,6 +2,8 @@
 //! of these for the next call, and the lines written of it all.
 
 use super::digest::Digest;
+use super::figures::{figures_of, set_of, FIGURES};
+use super::text::Text;
 use super::{KINDS, NUMBERS};
 use crate::extents::Conditions;
 use crate::frame::{Frame, Oxygen};
@@ -10,55 +12,10 @@ use crate::record::{self, CELL_BYTES};
 use crate::refusal;
 use crate::river::{totals, River, BATCH, CELLS};
 use crate::rows::{self, PROCESSES};
-use crate::sets::{check, Fractions, Halves, Inert, Rates, Set, Yields};
+use crate::sets::{check, Set};
 use crate::step::{step, Temperature};
 use crate::substances::SUBSTANCES;
 use std::fmt::Write;
-
-/// Figures of a set: five fractions of each of eight organics, 7 yields, 2 inert
-/// fractions, 15 rate constants, 19 half-saturations.
-pub const FIGURES: usize = 83;
-/// Where the yields, inert fractions, rate constants and half-saturations begin.
-pub const YIELDS: usize = 40;
-pub const INERT: usize = 47;
-pub const RATES: usize = 49;
-pub const HALVES: usize = 64;
-
-/// Room for the text, more than a record of nine cells.
-pub const TEXT: usize = 8_600;
-
-/// A set of its figures, in the order of the fields.
-pub fn set_of(figures: &[u32; FIGURES]) -> Set {
-    let fractions = |organic: usize| {
-        let [c, h, o, n, p] = std::array::from_fn(|element| figures[organic * 5 + element]);
-        Fractions { c, h, o, n, p }
-    };
-    Set {
-        ss: fractions(0),
-        si: fractions(1),
-        xh: fractions(2),
-        xn1: fractions(3),
-        xn2: fractions(4),
-        xalg: fractions(5),
-        xs: fractions(6),
-        xi: fractions(7),
-        yields: Yields::from(std::array::from_fn(|i| figures[YIELDS + i])),
-        inert: Inert::from(std::array::from_fn(|i| figures[INERT + i])),
-        rates: Rates::from(std::array::from_fn(|i| figures[RATES + i])),
-        halves: Halves::from(std::array::from_fn(|i| figures[HALVES + i])),
-    }
-}
-
-/// The figures of a set.
-pub fn figures_of(set: &Set) -> [u32; FIGURES] {
-    let mut figures = Vec::with_capacity(FIGURES);
-    set.organics().iter().for_each(|(_, fractions)| figures.extend(fractions.to_array()));
-    figures.extend(set.yields.to_array());
-    figures.extend(set.inert.to_array());
-    figures.extend(set.rates.to_array());
-    figures.extend(set.halves.to_array());
-    figures.try_into().expect("eight organics and four groups have 83 figures")
-}
 
 /// What a call is given besides its arguments.
 #[derive(Clone)]
@@ -69,30 +26,6 @@ struct Given {
     changed: bool,
     /// The text, where it was changed for this call alone.
     text: Option<Text>,
-}
-
-/// Room, and how much of it is text.
-#[derive(Clone)]
-struct Text {
-    bytes: [u8; TEXT],
-    length: usize,
-}
-
-impl Text {
-    /// The record of a river; no text if the river is refused.
-    fn of(river: &River) -> Self {
-        let mut bytes = [0; TEXT];
-        let mut work = [0; TEXT];
-        let length = match record::write(river, &mut bytes, &mut work) {
-            refusal::NONE => river.cells as usize * CELL_BYTES,
-            _ => 0,
-        };
-        Text { bytes, length }
-    }
-
-    fn lent(&self) -> &[u8] {
-        &self.bytes[..self.length]
-    }
 }
 
 /// Scene, lines and counts.

@@ -1,7 +1,8 @@
 //! Sets: every figure at its limits and past them, several faults at once, and
 //! walks through sets that pass checks 1 and 2, on both sides of check 3.
 
-use super::scene::{Scene, FIGURES, HALVES, INERT, RATES, YIELDS};
+use super::figures::{figures_of, FIGURES, HALVES, INERT, RATES, YIELDS};
+use super::scene::Scene;
 use crate::lists::{random_halves, random_neighbour, random_rates};
 use crate::sets::{Fractions, Halves, Rates, Set};
 
@@ -49,7 +50,7 @@ pub fn limits(scene: &mut Scene) {
     scene.fresh(1);
     scene.load(1, 14, 1_000_000);
     all_calls(scene, &[]);
-    let figures = super::scene::figures_of(&set);
+    let figures = figures_of(&set);
     for place in 0..FIGURES {
         for value in edges(place, figures[place]) {
             all_calls(scene, &[(place, value)]);
@@ -109,7 +110,7 @@ fn nothing_left_over(scene: &mut Scene) {
     }
     // Death and hydrolysis, with what they release at zero and just below it.
     for organic in [0, 5, 6, 7] {
-        let figures = super::scene::figures_of(&base);
+        let figures = figures_of(&base);
         for element in 0..5 {
             let place = organic * 5 + element;
             let other = organic * 5 + (element + 1) % 5;
