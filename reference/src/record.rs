@@ -44,17 +44,17 @@ pub fn write(river: &River, output: &mut [u8], work: &mut [u8]) -> u32 {
         let carries = &river.carries[cell * PROCESSES..][..PROCESSES];
         let values = amounts.iter().copied().chain(carries.iter().map(|&carry| carry.into()));
         for ((number, line), value) in (1..).zip(lines).zip(values) {
-            *line = written(cell + 1, number, value);
+            write_line(line, cell + 1, number, value);
         }
     }
     work[..length].copy_from_slice(&output[..length]);
     refusal::NONE
 }
 
-/// One line of the record.
-fn written(cell: usize, number: usize, value: i64) -> [u8; LINE] {
-    let mut line = [b' '; LINE];
+/// Writes one line of the record in place.
+fn write_line(line: &mut [u8; LINE], cell: usize, number: usize, value: i64) {
     line[..6].copy_from_slice(&heading(cell, number));
+    line[6..LINE - 1].fill(b' ');
     line[LINE - 1] = b'\n';
     let mut rest = value.unsigned_abs();
     let mut column = LINE - 1;
@@ -73,7 +73,6 @@ fn written(cell: usize, number: usize, value: i64) -> [u8; LINE] {
     if value < 0 {
         line[column - 1] = b'-';
     }
-    line
 }
 
 /// What stands before the value: cell and line in two columns, each with a blank.
