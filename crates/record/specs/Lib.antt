@@ -1,3 +1,4 @@
 pub mod Lines
 pub mod Writing
+pub mod Stages
 pub mod Reading

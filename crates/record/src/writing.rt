@@ -1,14 +1,14 @@
 // Lines written into lent bytes, cell by cell.
 ghost use mathlib.Core.Path.{_≡_};
-ghost use Prim.Native.Nat.{_+_, _*_, _≤_, _<_};
+ghost use Prim.Native.Nat.{ℕ, _+_, _*_, _≤_, _<_};
 ghost use lib.ListN.{length};
 ghost use lib.IntN.{pos};
-ghost use Rattle.river.specs.Rivers.{amountAt, carryAt};
-ghost use Rattle.text.specs.Blocks.{blocks};
 ghost use Rattle.text.specs.Writes.{put};
-ghost use Rattle.record.specs.Lines.{line, recordText, valueOf};
+ghost use Rattle.record.specs.Lines.{front, line, cellText, recordText, valueOf};
+ghost use Rattle.record.specs.Stages.{lineNumbers};
 use crate::CELL_BYTES;
 use crate::LINE_BYTES;
+use crate::LINES;
 use crate::VALUE_COLUMNS;
 use river::AMOUNTS;
 use river::CARRIES;
@@ -17,67 +17,88 @@ use stoichiometry::SUBSTANCES;
 use text::write_decimal;
 use text::write_two;
 
+// Bytes of the numbers of all lines of a cell.
+const NUMBER_BYTES: usize = LINES * 2;
+
+// The numbers of the lines of a cell, from 1, in two columns each. They are the same in every cell.
+fn line_numbers() -> [u8; NUMBER_BYTES]
+    ensures { λ r. ⌜ r ≡ lineNumbers 35 ⌝ }
+{
+    let mut numbers = [0; NUMBER_BYTES];
+    let mut k = 0;
+    while k < LINES {
+        write_two(&mut numbers, k * 2, (k + 1) as u32);
+        k += 1;
+    }
+    numbers
+}
+
+// What stands before the value on line k, from 0.
+fn write_front(line: &mut [u8], cell: u32, numbers: &[u8; NUMBER_BYTES], k: usize)
+    requires { ⌜ (k < 35) × (6 ≤ length (now line)) × (now numbers ≡ lineNumbers 35) ⌝ }
+    ensures { λ _. ⌜ now (line .exit) ≡ put (now (line .entry)) 0 (front cell (k + 1)) ⌝ }
+{
+    write_two(line, 0, cell);
+    line[2] = b' ';
+    line[3] = numbers[k * 2];
+    line[4] = numbers[k * 2 + 1];
+    line[5] = b' ';
+}
+
+// Line k, from 0, written from `at` on.
+fn write_line(
+    out: &mut [u8],
+    at: usize,
+    cell: u32,
+    numbers: &[u8; NUMBER_BYTES],
+    k: usize,
+    value: i64,
+)
+    requires { ⌜ (k < 35) × (at + 27 ≤ length (now out)) × (now numbers ≡ lineNumbers 35) ⌝ }
+    ensures { λ _. ⌜ now (out .exit) ≡ put (now (out .entry)) at (line cell (k + 1) value) ⌝ }
+{
+    let end = at + LINE_BYTES;
+    let line = &mut out[at..end];
+    write_front(line, cell, numbers, k);
+    write_decimal(line, 6, VALUE_COLUMNS, value);
+    line[26] = b'\n';
+}
+
 fn wide(x: u32) -> i64
     ensures { λ r. ⌜ r ≡ pos x ⌝ }
 {
     x as i64
 }
 
-// One line from `at` on; cells and lines are numbered from 1.
-fn write_line(out: &mut [u8], at: usize, cell: u32, number: u32, value: i64)
-    requires { ⌜ at + 27 ≤ length (now out) ⌝ }
-    ensures { λ _. ⌜ now (out .exit) ≡ put (now (out .entry)) at (line cell number value) ⌝ }
+// The value on line k of cell c, both from 0.
+fn value_at(amounts: &[i64; AMOUNTS], carries: &[u32; CARRIES], c: usize, k: usize) -> i64
+    requires { ⌜ (c < 8) × (k < 35) ⌝ }
+    ensures { λ r. ⌜ r ≡ valueOf (now (amounts .entry)) (now (carries .entry)) c k ⌝ }
 {
-    write_two(out, at, cell);
-    let blank = at + 2;
-    out[blank] = b' ';
-    write_two(out, at + 3, number);
-    let second = at + 5;
-    out[second] = b' ';
-    write_decimal(out, at + 6, VALUE_COLUMNS, value);
-    let end = at + 26;
-    out[end] = b'\n';
+    if k < SUBSTANCES {
+        return amounts[c * SUBSTANCES + k];
+    }
+    wide(carries[c * PROCESSES + (k - SUBSTANCES)])
 }
 
-// The lines of the amounts of cell c, counted from 0.
-fn write_amounts(out: &mut [u8], c: usize, amounts: &[i64; AMOUNTS])
-    requires { ⌜ (c < 8) × (c * 945 + 945 ≤ length (now out)) ⌝ }
-    ensures { λ _. ⌜ now (out .exit) ≡ put (now (out .entry)) (c * 945) (blocks 18 (λ k. line (c + 1) (k + 1) (amountAt (now (amounts .entry)) c k))) ⌝ }
+// The lines of cell c, from 0.
+fn write_cell(
+    out: &mut [u8],
+    c: usize,
+    numbers: &[u8; NUMBER_BYTES],
+    amounts: &[i64; AMOUNTS],
+    carries: &[u32; CARRIES],
+)
+    requires { ⌜ (c < 8) × (c * 945 + 945 ≤ length (now out)) × (now numbers ≡ lineNumbers 35) ⌝ }
+    ensures { λ _. ⌜ now (out .exit) ≡ put (now (out .entry)) (c * 945) (cellText 35 (valueOf (now (amounts .entry)) (now (carries .entry))) c) ⌝ }
 {
     let start = c * CELL_BYTES;
-    let first = c * SUBSTANCES;
     let cell = (c + 1) as u32;
     let mut k = 0;
-    while k < SUBSTANCES {
-        write_line(
-            out,
-            start + k * LINE_BYTES,
-            cell,
-            (k + 1) as u32,
-            amounts[first + k],
-        );
+    while k < LINES {
+        let value = value_at(amounts, carries, c, k);
+        write_line(out, start + k * LINE_BYTES, cell, numbers, k, value);
         k += 1;
-    }
-}
-
-// The lines of the carries of cell c, counted from 0.
-fn write_carries(out: &mut [u8], c: usize, carries: &[u32; CARRIES])
-    requires { ⌜ (c < 8) × (c * 945 + 945 ≤ length (now out)) ⌝ }
-    ensures { λ _. ⌜ now (out .exit) ≡ put (now (out .entry)) (c * 945 + 486) (blocks 17 (λ p. line (c + 1) (18 + p + 1) (pos (carryAt (now (carries .entry)) c p)))) ⌝ }
-{
-    let start = c * CELL_BYTES + SUBSTANCES * LINE_BYTES;
-    let first = c * PROCESSES;
-    let cell = (c + 1) as u32;
-    let mut p = 0;
-    while p < PROCESSES {
-        write_line(
-            out,
-            start + p * LINE_BYTES,
-            cell,
-            (SUBSTANCES + p + 1) as u32,
-            wide(carries[first + p]),
-        );
-        p += 1;
     }
 }
 
@@ -91,10 +112,10 @@ pub(crate) fn write_cells(
     requires { ⌜ (n ≤ 8) × (n * 945 ≤ length (now out)) ⌝ }
     ensures { λ _. ⌜ now (out .exit) ≡ put (now (out .entry)) 0 (recordText n 35 (valueOf (now (amounts .entry)) (now (carries .entry)))) ⌝ }
 {
+    let numbers = line_numbers();
     let mut c = 0;
     while c < n {
-        write_amounts(out, c, amounts);
-        write_carries(out, c, carries);
+        write_cell(out, c, &numbers, amounts, carries);
         c += 1;
     }
 }

@@ -1,6 +1,6 @@
 -- Laws of numbers in columns: their lengths, writes of them that fit, and the writer's loops, which go from the last
 -- column to the left: a store and what is still to come are what was to come before. No assumptions.
-use Prim.Native.Nat.{ℕ, zero, suc, _+_, _-_, _*_, _/_, _%_, _≤_, _<_}
+use Prim.Native.Nat.{ℕ, zero, suc, _+_, _-_, _/_, _%_, _≤_, _<_}
 use mathlib.Core.List.{List, [], _∷_, _++_}
 use mathlib.Core.Logic.{_⊎_, ⊎-elim}
 use mathlib.Core.Path.{_≡_, refl, sym, ap, ap₂, _∙_, subst}
@@ -8,7 +8,7 @@ use native.Mathlib.Nat.{not-suc-le-zero, eq-or-lt-of-le, le-of-suc-le-suc}
 use native.Mathlib.Numerals.{add-one, sub-one}
 use native.Mathlib.Omega.{arith}
 use lib.IntN.{ℤ, natAbs}
-use lib.ListN.{length, set, getD, length-append, length-set}
+use lib.ListN.{length, set, getD, length-append}
 use lib.Seq.{getD-set-same, getD-set-other, set-getD}
 use Rattle.text.specs.Writes.{put, putWithin}
 use Rattle.text.specs.Decimals.{glyph, nextMark, columns, plain, markOf, decimal}
@@ -61,7 +61,8 @@ next-mark-digit (suc r) mark h = refl
 before : (l : List ℕ) (at b : ℕ) (xs : List ℕ) (k : ℕ) → length xs ≡ k → at + k < length l
     → put (set l (at + k) b) at xs ≡ put l at (xs ++ (b ∷ []))
 before l at b xs k e h =
-    subst (λ (n : ℕ). put (set l (at + n) b) at xs ≡ put l at (xs ++ (b ∷ []))) e (put-before l at b xs (omega arith))
+    ap (λ (t : List ℕ). put t at xs) (set-put l (at + k) b h)
+    ∙ put-before l at (at + k) xs (b ∷ []) (omega arith) (omega arith)
 
 -- The last of the columns is stored: the others are left.
 pub columns-turn : (l : List ℕ) (at i m r g m′ : ℕ) → 0 < i → at + i ≤ length l → g ≡ glyph r m → m′ ≡ nextMark r m
@@ -94,29 +95,6 @@ pub plain-none : (l : List ℕ) (at w m n : ℕ) → w ≤ 0 → put l at (plain
 unfolding plain
 plain-none l at zero m n h = put-none l at
 plain-none l at (suc w) m n h = absurd (not-suc-le-zero h)
-
--- Two digits are stored, in the columns k and k + 1, of which the second is the last.
-pub columns-pair : (l : List ℕ) (at i m r k p : ℕ) → 2 ≤ i → 10 ≤ r → at + i ≤ length l
-    → k ≡ at + (i - 2)
-    → p ≡ r - r / 100 * 100
-    → put (set (set l (k + 1) (48 + p % 10)) k (48 + p / 10)) at (columns (i - 2) m (r / 100))
-    ≡ put l at (columns i m r)
-columns-pair l at i m r k p two ten room ek ep =
-    let last : k + 1 ≡ at + (i - 1) = omega arith in
-    let first : k ≡ at + (i - 1 - 1) = omega arith in
-    let left : i - 2 ≡ i - 1 - 1 = omega arith in
-    let tens : 48 + p / 10 ≡ 48 + r / 10 % 10 = omega arith in
-    let ones : 48 + p % 10 ≡ 48 + r % 10 = omega arith in
-    let hundreds : r / 100 ≡ r / 10 / 10 = omega arith in
-    let l₁ : List ℕ = set l (at + (i - 1)) (48 + p % 10) in
-    let long : length l₁ ≡ length l = length-set l (at + (i - 1)) (48 + p % 10) in
-    ap (λ (x : ℕ). put (set (set l x (48 + p % 10)) k (48 + p / 10)) at (columns (i - 2) m (r / 100))) last
-    ∙ ap (λ (x : ℕ). put (set l₁ x (48 + p / 10)) at (columns (i - 2) m (r / 100))) first
-    ∙ ap₂ (λ (x y : ℕ). put (set l₁ (at + (i - 1 - 1)) (48 + p / 10)) at (columns x m y)) left hundreds
-    ∙ columns-turn l₁ at (i - 1) m (r / 10) (48 + p / 10) m (omega arith) (omega arith)
-    (tens ∙ sym (glyph-digit (r / 10) m (λ e. omega arith))) (sym (next-mark-digit (r / 10) m (λ e. omega arith)))
-    ∙ columns-turn l at i m r (48 + p % 10) m (omega arith) room
-    (ones ∙ sym (glyph-digit r m (λ e. omega arith))) (sym (next-mark-digit r m (λ e. omega arith)))
 
 -- Two columns: the tens or a blank, the ones.
 pub plain-two : (l : List ℕ) (at n g : ℕ) → at + 2 ≤ length l → g ≡ glyph (n / 10) 32
@@ -171,21 +149,34 @@ blank-end l at i m r h room er em = ap₂ (λ (x y : ℕ). put l at (columns i x
         (ap (set l (at + n)) (sym (h n (omega arith))) ∙ set-getD l (at + n) 0)
         ∙ blanks n (λ j k. h j (omega arith)) (omega arith)
 
--- A number is written over blanks: the last digit, then the columns before it, which are blank till then.
-module _ (l l₁ : List ℕ) (at w n : ℕ) (some : 0 < w) (room : at + w ≤ length l)
-    (e : l₁ ≡ put l at (columns w 32 0)) where
-  pub plain-blank : Blank (set l₁ (at + (w - 1)) (48 + n % 10)) at (w - 1)
-  plain-blank =
-      blank-set l₁ at w (w - 1) (at + (w - 1)) (48 + n % 10)
-      (subst (λ (x : List ℕ). Blank x at w) (sym e) (blank-written l at w room)) (omega arith) (omega arith)
+-- A number that is not 0 has a digit in the last column by itself.
+plain-digits : (w m n : ℕ) → 0 < w → (n ≡ 0 → ⊥) → columns w m n ≡ plain w m n
+unfolding plain columns
+plain-digits zero m n some h = absurd (not-suc-le-zero some)
+plain-digits (suc w) m n some h =
+    ap₂ (λ (x y : ℕ). columns w x (n / 10) ++ (y ∷ [])) (next-mark-digit n m h) (glyph-digit n m h)
 
-  pub plain-written : (l₂ : List ℕ) (m : ℕ)
-      → l₂ ≡ put (set l₁ (at + (w - 1)) (48 + n % 10)) at (columns (w - 1) m (n / 10))
+-- A number is written over blanks: a lone zero and the mark before it, or digits and the mark.
+module _ (l l₁ : List ℕ) (at w : ℕ) (some : 0 < w) (room : at + w ≤ length l)
+    (e : l₁ ≡ put l at (columns w 32 0)) where
+  pub over-blank : Blank l₁ at w
+  over-blank = subst (λ (x : List ℕ). Blank x at w) (sym e) (blank-written l at w room)
+
+  pub zero-blank : Blank (set l₁ (at + (w - 1)) 48) at (w - 1)
+  zero-blank = blank-set l₁ at w (w - 1) (at + (w - 1)) 48 over-blank (omega arith) (omega arith)
+
+  over : (m n : ℕ) → put l₁ at (plain w m n) ≡ put l at (plain w m n)
+  over m n =
+      let as-long = columns-length w 32 0 in
+      ap (λ (x : List ℕ). put x at (plain w m n)) e
+      ∙ put-over l at (columns w 32 0) (omega arith) (plain w m n) (plain-length w m n ∙ sym as-long)
+
+  pub zero-written : (l₂ : List ℕ) (m n : ℕ) → n ≡ 0 → l₂ ≡ put (set l₁ (at + (w - 1)) 48) at (columns (w - 1) m 0)
       → l₂ ≡ put l at (plain w m n)
-  plain-written l₂ m e₂ =
+  zero-written l₂ m n none e₂ =
       let as-long = columns-length w 32 0 in
       let same : length l₁ ≡ length l = ap length e ∙ put-length l at (columns w 32 0) (omega arith) in
-      e₂
-      ∙ plain-turn l₁ at w m n some (omega arith)
-      ∙ ap (λ (x : List ℕ). put x at (plain w m n)) e
-      ∙ put-over l at (columns w 32 0) (omega arith) (plain w m n) (plain-length w m n ∙ sym as-long)
+      e₂ ∙ plain-turn l₁ at w m 0 some (omega arith) ∙ over m 0 ∙ ap (λ (k : ℕ). put l at (plain w m k)) (sym none)
+
+  pub digits-written : (l₂ : List ℕ) (m n : ℕ) → (n ≡ 0 → ⊥) → l₂ ≡ put l₁ at (columns w m n) → l₂ ≡ put l at (plain w m n)
+  digits-written l₂ m n h e₂ = e₂ ∙ ap (put l₁ at) (plain-digits w m n some h) ∙ over m n

@@ -2,6 +2,7 @@
 -- reader, its loops; worked cases.
 pub mod WriteLaws
 pub mod DecimalLaws
+pub mod DigitLaws
 pub mod Magnitudes
 pub mod BlockLaws
 pub mod ReadingLaws

@@ -1,6 +1,6 @@
 -- Laws of `put`: writes one behind the other are one write, a store is a write of one byte, a write over a write. Then
 -- of `putWithin` and `copied`. Sequences of writes go by `grow` and `store`. No assumptions.
-use Prim.Native.Nat.{ℕ, suc, _+_, _≤_, _<_}
+use Prim.Native.Nat.{ℕ, _+_, _≤_, _<_}
 use mathlib.Core.Bool.{Bool, true, false, _&&_, cond}
 use mathlib.Core.List.{List, [], _∷_, _++_, append-assoc}
 use mathlib.Core.Path.{_≡_, refl, sym, ap, _∙_}
@@ -10,7 +10,7 @@ use native.Mathlib.Omega.{arith}
 use borrow.Author.Tests.{le-leb, lt-leb}
 use lib.Dec.{leb}
 use lib.ListN.{length, take, drop, set, getD, length-append, length-take, length-drop, take-append-drop}
-use lib.Seq.{set-split, take-set-le, take-at, drop-at, drop-drop, drop-append-add, length-take-le, take-suc}
+use lib.Seq.{set-split, take-at, take-append-le, drop-at, drop-drop, drop-append-add, length-take-le, take-suc}
 use Rattle.text.specs.Writes.{put, putWithin, copied}
 
 pub put-none : (l : List ℕ) (at : ℕ) → put l at [] ≡ l
@@ -69,18 +69,22 @@ pub set-put : (l : List ℕ) (at b : ℕ) → at < length l → set l at b ≡ p
 unfolding put
 set-put l at b h = rw (add-one at) (set-split l at b h)
 
--- A store just behind what is still to be written, for a loop that goes down.
-pub put-before : (l : List ℕ) (at b : ℕ) (xs : List ℕ) → at + length xs < length l
-    → put (set l (at + length xs) b) at xs ≡ put l at (xs ++ (b ∷ []))
+-- A write just behind what is still to be written, for a loop that goes down.
+pub put-before : (l : List ℕ) (at k : ℕ) (xs ys : List ℕ) → k ≡ at + length xs → k + length ys ≤ length l
+    → put (put l k ys) at xs ≡ put l at (xs ++ ys)
 unfolding put
-put-before l at b xs h =
-    let k : ℕ = at + length xs in
-    let e : suc k ≡ at + length (xs ++ (b ∷ [])) = simp length-append (omega arith) in
-    ap (λ (t : List ℕ). t ++ (xs ++ drop k (set l k b))) (take-set-le at l k b (omega arith))
+put-before l at k xs ys e h =
+    let rest : List ℕ = drop (k + length ys) l in
+    let long : length (take k l) ≡ k = length-take-le k l (omega arith) in
+    let ends : k + length ys ≡ at + length (xs ++ ys) = simp length-append (omega arith) in
+    ap (λ (t : List ℕ). t ++ (xs ++ drop (at + length xs) (take k l ++ (ys ++ rest))))
+    (take-append-le at (take k l) (ys ++ rest) (omega arith)
+    ∙ sym (take-append-le at (take k l) (drop k l) (omega arith))
+    ∙ ap (take at) (take-append-drop k l))
     ∙ ap (λ (t : List ℕ). take at l ++ (xs ++ t))
-    (ap (drop k) (set-split l k b h) ∙ drop-at (take k l) (b ∷ drop (suc k) l) k (length-take-le k l (omega arith)))
-    ∙ ap (λ (t : List ℕ). take at l ++ t) (sym (append-assoc xs (b ∷ []) (drop (suc k) l)))
-    ∙ ap (λ (n : ℕ). take at l ++ ((xs ++ (b ∷ [])) ++ drop n l)) e
+    (ap (λ (n : ℕ). drop n (take k l ++ (ys ++ rest))) (sym e) ∙ drop-at (take k l) (ys ++ rest) k long)
+    ∙ ap (λ (t : List ℕ). take at l ++ t) (sym (append-assoc xs ys rest))
+    ∙ ap (λ (n : ℕ). take at l ++ ((xs ++ ys) ++ drop n l)) ends
 
 -- One write behind another, with the length of the first as a number.
 pub grow : (l l₁ : List ℕ) (at n m : ℕ) (xs ys : List ℕ) → length xs ≡ n → m ≡ at + n → at + n ≤ length l

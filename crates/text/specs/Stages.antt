@@ -1,7 +1,7 @@
--- What the inner functions of the reader and of the writer hand to each other: how far a text is read, and that columns
--- are still blank. Laws: proofs/ReadingLoop.antt, proofs/DecimalLaws.antt. No assumptions.
-use Prim.Native.Nat.{ℕ, _+_, _≤_, _<_}
-use mathlib.Core.List.{List}
+-- What the inner functions of the reader and of the writer hand to each other: how far a text is read, that columns are
+-- still blank, and digits by twos and fours. Laws: proofs/ReadingLoop.antt, proofs/DecimalLaws.antt. No assumptions.
+use Prim.Native.Nat.{ℕ, _+_, _/_, _%_, _≤_, _<_}
+use mathlib.Core.List.{List, [], _∷_, _++_}
 use mathlib.Core.Path.{_≡_}
 use lib.ListN.{length, take, getD}
 use Rattle.text.specs.Reading.{cols, bad, other, runOn, start}
@@ -21,3 +21,10 @@ pub record Ready (t : List ℕ) (i m : ℕ) : Type 0 where
 -- The w columns of l from `at` on hold blanks.
 abbrev pub Blank : List ℕ → ℕ → ℕ → Type 0
 Blank l at w = (j : ℕ) → j < w → getD l (at + j) 0 ≡ 32
+
+-- The last two digits of a number, and its last four.
+abbrev pub pair : ℕ → List ℕ
+pair n = (48 + n / 10 % 10) ∷ (48 + n % 10) ∷ []
+
+abbrev pub four : ℕ → List ℕ
+four n = pair (n / 100) ++ pair n

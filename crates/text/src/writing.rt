@@ -1,12 +1,12 @@
-// Inner functions of the writer: blanks first, then from the last digit on to the left, two digits a turn as long as
-// there are two, then one column a turn, with the mark as the last.
+// Inner functions of the writer: blanks first, then the digits from the last on to the left, four at a time as long as
+// there are four before them, and the mark. Each writes the columns before what is already there.
 ghost use mathlib.Core.Path.{_≡_};
 ghost use Prim.Native.Nat.{_+_, _<_, _≤_};
 ghost use lib.ListN.{length};
 ghost use lib.IntN.{natAbs};
 ghost use Rattle.text.specs.Writes.{put};
 ghost use Rattle.text.specs.Decimals.{glyph, nextMark, columns, plain, markOf};
-ghost use Rattle.text.specs.Stages.{Blank};
+ghost use Rattle.text.specs.Stages.{Blank, pair, four};
 
 // The byte of a column for what is left of the number there: its last digit, or the mark where nothing is left.
 pub(crate) fn glyph(rest: u64, mark: u8) -> u8
@@ -57,7 +57,8 @@ fn write_blanks(out: &mut [u8], at: usize, width: usize)
     }
 }
 
-// The digits of n and its mark in columns that hold blanks, one column a turn.
+// The digits of n and its mark in columns that hold blanks, one column a turn: the last digits where there are fewer
+// columns than digits.
 fn write_singles(out: &mut [u8], at: usize, width: usize, mark: u8, n: u64)
     requires { ⌜ at + width ≤ length (now out) ⌝ }
     requires { ⌜ Blank (now out) at width ⌝ }
@@ -80,31 +81,122 @@ fn write_singles(out: &mut [u8], at: usize, width: usize, mark: u8, n: u64)
     }
 }
 
-// The digits of n and its mark in columns that hold blanks, two digits a turn as long as there are two.
-fn write_pairs(out: &mut [u8], at: usize, width: usize, mark: u8, n: u64)
+// Two digits.
+fn write_pair(out: &mut [u8], at: usize, n: u32)
+    requires { ⌜ (n < 100) × (at + 2 ≤ length (now out)) ⌝ }
+    ensures { λ _. ⌜ now (out .exit) ≡ put (now (out .entry)) at (pair n) ⌝ }
+{
+    let tens = n / 10;
+    let second = at + 1;
+    out[at] = b'0' + tens as u8;
+    // The remainder by the quotient, so that there is one division; so in the functions below.
+    out[second] = b'0' + (n - tens * 10) as u8;
+}
+
+// Four digits.
+fn write_four(out: &mut [u8], at: usize, n: u32)
+    requires { ⌜ (n < 10000) × (at + 4 ≤ length (now out)) ⌝ }
+    ensures { λ _. ⌜ now (out .exit) ≡ put (now (out .entry)) at (four n) ⌝ }
+{
+    let hundreds = n / 100;
+    write_pair(out, at, hundreds);
+    write_pair(out, at + 2, n - hundreds * 100);
+}
+
+// The mark in columns that hold blanks.
+fn write_mark(out: &mut [u8], at: usize, width: usize, mark: u8)
+    requires { ⌜ at + width ≤ length (now out) ⌝ }
+    requires { ⌜ Blank (now out) at width ⌝ }
+    ensures { λ _. ⌜ now (out .exit) ≡ put (now (out .entry)) at (columns width mark 0) ⌝ }
+{
+    if mark == b' ' {
+        return;
+    }
+    if width == 0 {
+        return;
+    }
+    let last = at + (width - 1);
+    out[last] = mark;
+}
+
+// A number of at most one digit and its mark in columns that hold blanks. No digit where it is 0.
+fn write_below_10(out: &mut [u8], at: usize, width: usize, mark: u8, n: u32)
+    requires { ⌜ (n < 10) × (at + width ≤ length (now out)) ⌝ }
+    requires { ⌜ Blank (now out) at width ⌝ }
+    ensures { λ _. ⌜ now (out .exit) ≡ put (now (out .entry)) at (columns width mark n) ⌝ }
+{
+    if n == 0 {
+        write_mark(out, at, width, mark);
+        return;
+    }
+    if width == 0 {
+        return;
+    }
+    let before = width - 1;
+    let last = at + before;
+    out[last] = b'0' + n as u8;
+    write_mark(out, at, before, mark);
+}
+
+// At most two digits.
+fn write_below_100(out: &mut [u8], at: usize, width: usize, mark: u8, n: u32)
+    requires { ⌜ (n < 100) × (at + width ≤ length (now out)) ⌝ }
+    requires { ⌜ Blank (now out) at width ⌝ }
+    ensures { λ _. ⌜ now (out .exit) ≡ put (now (out .entry)) at (columns width mark n) ⌝ }
+{
+    if n < 10 {
+        write_below_10(out, at, width, mark, n);
+        return;
+    }
+    if width < 2 {
+        write_singles(out, at, width, mark, n as u64);
+        return;
+    }
+    let before = width - 2;
+    write_pair(out, at + before, n);
+    write_mark(out, at, before, mark);
+}
+
+// At most four digits.
+fn write_below_10000(out: &mut [u8], at: usize, width: usize, mark: u8, n: u32)
+    requires { ⌜ (n < 10000) × (at + width ≤ length (now out)) ⌝ }
+    requires { ⌜ Blank (now out) at width ⌝ }
+    ensures { λ _. ⌜ now (out .exit) ≡ put (now (out .entry)) at (columns width mark n) ⌝ }
+{
+    if n < 100 {
+        write_below_100(out, at, width, mark, n);
+        return;
+    }
+    if width < 2 {
+        write_singles(out, at, width, mark, n as u64);
+        return;
+    }
+    let before = width - 2;
+    let hundreds = n / 100;
+    write_pair(out, at + before, n - hundreds * 100);
+    write_below_100(out, at, before, mark, hundreds);
+}
+
+// The digits of n and its mark in columns that hold blanks.
+fn write_columns(out: &mut [u8], at: usize, width: usize, mark: u8, n: u64)
     requires { ⌜ at + width ≤ length (now out) ⌝ }
     requires { ⌜ Blank (now out) at width ⌝ }
     ensures { λ _. ⌜ now (out .exit) ≡ put (now (out .entry)) at (columns width mark n) ⌝ }
 {
     let mut i = width;
     let mut rest = n;
-    while rest >= 10 {
-        // Fewer columns than digits: the last digits stay.
-        if i < 2 {
+    while rest >= 10000 {
+        if i < 4 {
             write_singles(out, at, i, mark, rest);
             return;
         }
-        // The remainder by the quotient, so that there is one division a turn.
-        let hundreds = rest / 100;
-        let pair = (rest - hundreds * 100) as u32;
-        rest = hundreds;
-        i -= 2;
-        let k = at + i;
-        let second = k + 1;
-        out[second] = b'0' + (pair % 10) as u8;
-        out[k] = b'0' + (pair / 10) as u8;
+        let more = rest / 10000;
+        let last = (rest - more * 10000) as u32;
+        rest = more;
+        i -= 4;
+        write_four(out, at + i, last);
     }
-    write_singles(out, at, i, mark, rest);
+    write_below_10000(out, at, i, mark, rest as u32);
 }
 
 // n in `width` columns from `at` on, with the mark before its first digit.
@@ -114,8 +206,12 @@ pub(crate) fn write_plain(out: &mut [u8], at: usize, width: usize, mark: u8, n: 
     ensures { λ _. ⌜ now (out .exit) ≡ put (now (out .entry)) at (plain width mark n) ⌝ }
 {
     write_blanks(out, at, width);
-    let before = width - 1;
-    let last = at + before;
-    out[last] = b'0' + (n % 10) as u8;
-    write_pairs(out, at, before, mark, n / 10);
+    if n == 0 {
+        let before = width - 1;
+        let last = at + before;
+        out[last] = b'0';
+        write_mark(out, at, before, mark);
+        return;
+    }
+    write_columns(out, at, width, mark, n);
 }

@@ -12,28 +12,28 @@ use Rattle.record.proofs.writing.write_cells.Statement.{statement}
 use Rattle.record.proofs.writing.write_cells.Tie as tie
 
 abbrev Inv-loop : tie.InvT-loop
-Inv-loop out₀ n amounts carries c₀ out c = (c ≤ n) × (out ≡ put out₀ 0 (recordText c 35 (valueOf amounts carries)))
+Inv-loop out₀ n amounts carries numbers c₀ out c = (c ≤ n) × (out ≡ put out₀ 0 (recordText c 35 (valueOf amounts carries)))
 
 abbrev μ-loop : tie.MeasureT-loop
-μ-loop out₀ n amounts carries c₀ out c = n - c
+μ-loop out₀ n amounts carries numbers c₀ out c = n - c
 
-kept : (c : tie.At-loop Inv-loop μ-loop) → length (c .loop .out) ≡ length (c .before .before .args .out .now)
+kept : (c : tie.At-loop Inv-loop μ-loop) → length (c .loop .out) ≡ length (c .before .before .before .args .out .now)
 kept c =
-    let start = c .before .before in
-    let value = valueOf (start .args .amounts .now) (start .args .carries .now) in
+    let args = c .before .before .before .args in
+    let value = valueOf (args .amounts .now) (args .carries .now) in
     let long = record-length (c .loop .c) 35 value in
-    ap length (c .loop .inv .1) ∙ put-length (start .args .out .now) 0 (recordText (c .loop .c) 35 value) (omega arith)
+    ap length (c .loop .inv .1) ∙ put-length (args .out .now) 0 (recordText (c .loop .c) 35 value) (omega arith)
+
+line-numbers-requires : tie.Need-line-numbers-requires Inv-loop μ-loop
+line-numbers-requires c κs = tt
 
 loop-holds : tie.Need-loop-holds Inv-loop μ-loop
 loop-holds c = (omega arith, cells-start _ _)
 
-write-amounts-requires : tie.Need-write-amounts-requires Inv-loop μ-loop
-write-amounts-requires c κs = (omega arith, omega (arith, kept (c .before .before)))
-
-write-carries-requires : tie.Need-write-carries-requires Inv-loop μ-loop
-write-carries-requires c κs =
-    let called = c .before .before .before in
-    (omega arith, omega (arith, called .write-amounts .kept .0, kept (called .before .before .before)))
+write-cell-requires : tie.Need-write-cell-requires Inv-loop μ-loop
+write-cell-requires c κs =
+    let at-loop = c .before .before .before in
+    (omega arith, omega (arith, kept at-loop), at-loop .before .line-numbers .ensures)
 
 add-c : tie.Need-add-c Inv-loop μ-loop
 add-c c = omega arith
@@ -43,13 +43,12 @@ loop-less c = omega arith
 
 loop-again : tie.Need-loop-again Inv-loop μ-loop
 loop-again c =
-    let carries = c .before .before in
-    let amounts = carries .before .before .before .before in
-    let at-loop = amounts .before .before .before in
-    let start = at-loop .before .before in (
+    let called = c .before .before in
+    let at-loop = called .before .before .before .before in
+    let args = at-loop .before .before .before .args in (
       omega arith,
-      cell-turn (start .args .out .now) (at-loop .loop .out) (amounts .write-amounts .last .0) (carries .write-carries .last .0) (start .args .amounts .now) (start .args .carries .now) (at-loop .loop .c)
-          (omega arith) (at-loop .loop .inv .1) (amounts .write-amounts .ensures) (carries .write-carries .ensures),
+      cell-turn (args .out .now) (at-loop .loop .out) (called .write-cell .last .0) (valueOf (args .amounts .now) (args .carries .now)) (at-loop .loop .c)
+          (omega arith) (at-loop .loop .inv .1) (called .write-cell .ensures),
     )
 
 same-length : tie.Need-same-length Inv-loop μ-loop
@@ -58,8 +57,7 @@ same-length c = kept (c .before)
 returns : tie.Need-returns Inv-loop μ-loop
 returns c =
     let at-loop = c .before in
-    let start = at-loop .before .before in
-    let finished : at-loop .loop .c ≡ start .args .n = omega arith in
+    let finished : at-loop .loop .c ≡ at-loop .before .before .before .args .n = omega arith in
     rw (at-loop .loop .inv .1, finished)
 
 pub write-cells-spec : {M : Type 1} → statement M
@@ -68,9 +66,9 @@ write-cells-spec =
     (tie.spec
     Inv-loop
     μ-loop
+    line-numbers-requires
     loop-holds
-    write-amounts-requires
-    write-carries-requires
+    write-cell-requires
     add-c
     loop-less
     loop-again

@@ -1,86 +1,66 @@
--- `writing::write_line` meets its contract: six writes, one behind the other (proofs/Written.antt). No assumptions.
+-- `writing::write_line` meets its contract: a line written over its part of the text. No assumptions.
+use Prim.Native.Nat.{_+_, _-_}
 use mathlib.Core.Path.{_≡_, ap, _∙_}
-use Prim.Native.Nat.{_+_}
 use native.Mathlib.Omega.{arith}
-use lib.ListN.{length, set, length-set}
+use lib.ListN.{length, take, drop, set, length-take, length-drop}
 use lib.IntN.{ℤ}
 use mir.Facts.{toZ-ofZ}
 use Rattle.text.specs.Decimals.{decimal}
 use Rattle.text.specs.Writes.{putWithin}
-use Rattle.record.proofs.Written.{line-written}
+use Rattle.record.proofs.LineLaws.{line-length}
+use Rattle.record.proofs.Written.{line-written, part-written}
 use borrow.Author.Needs.{needs}
 use Rattle.record.proofs.writing.write_line.Statement.{statement}
 use Rattle.record.proofs.writing.write_line.Tie as tie
 
--- The buffer keeps its length through the calls.
-second-kept : (c : tie.After-write-two2) → length (c .write-two2 .last .0) ≡ length (c .before .before .before .before .before .before .before .args .out .now)
-second-kept c = (simp length-set at (c .write-two2 .kept .0)) ∙ c .before .before .before .before .write-two .kept .0
+add-end : tie.Need-add-end
+add-end c = search needs
 
-value-kept : (c : tie.After-write-decimal) → length (c .write-decimal .last .0) ≡ length (c .before .before .before .before .before .before .before .before .before .before .before .args .out .now)
-value-kept c = (simp length-set at (c .write-decimal .kept .0)) ∙ second-kept (c .before .before .before .before)
+sub-line : tie.Need-sub-line
+sub-line c = search needs
 
-write-two-requires : tie.Need-write-two-requires
-write-two-requires c κs = search needs
+part-line-start : tie.Need-part-line-start
+part-line-start c = search needs
 
-add-blank : tie.Need-add-blank
-add-blank c = search needs
+part-line-end : tie.Need-part-line-end
+part-line-end c = search needs
 
-slice-write-out : tie.Need-slice-write-out
-slice-write-out c = search needs
-
-add-write-two : tie.Need-add-write-two
-add-write-two c = search needs
-
-write-two-requires-2 : tie.Need-write-two-requires-2
-write-two-requires-2 c κs = search needs
-
-add-second : tie.Need-add-second
-add-second c = search needs
-
-slice-write-out-2 : tie.Need-slice-write-out-2
-slice-write-out-2 c = omega (arith, second-kept (c .before .before))
-
-add-write-decimal : tie.Need-add-write-decimal
-add-write-decimal c = search needs
+write-front-requires : tie.Need-write-front-requires
+write-front-requires c κs = search needs
 
 write-decimal-requires : tie.Need-write-decimal-requires
 write-decimal-requires c κs = search needs
 
-add-end : tie.Need-add-end
-add-end c = search needs
-
-slice-write-out-3 : tie.Need-slice-write-out-3
-slice-write-out-3 c = omega (arith, value-kept (c .before .before))
+slice-write-line : tie.Need-slice-write-line
+slice-write-line c = search needs
 
 same-length : tie.Need-same-length
-same-length c = simp length-set (value-kept (c .before .before))
+same-length c = search needs
 
 returns : tie.Need-returns
 returns c =
-    let value = c .before .before in
-    let second = value .before .before .before .before in
-    let first = second .before .before .before .before in
-    let start = first .before .before .before in
+    let value = c .before .before .before .before in
+    let front = value .before .before .before .before in
+    let start = front .before .before .before .before in
     let args = start .args in
-    let written = second .write-two2 .last .0 in
-    line-written (args .out .now) (first .write-two .last .0) written (value .write-decimal .last .0) (args .at) (args .cell) (args .number) (args .value)
-    (start .pre) (first .write-two .ensures) (second .write-two2 .ensures)
-    (value .write-decimal .ensures ∙ ap (λ (z : ℤ). putWithin (set written (args .at + 5) 32) (args .at + 6) (decimal 20 z)) (toZ-ofZ (start .fits .value)))
+    let l = args .out .now in
+    let part = take (args .at + 27 - args .at) (drop (args .at) l) in
+    let room : length part ≡ 27 = simp (length-take, length-drop) (omega arith) in
+    part-written l (set (value .write-decimal .last .0) 26 10) _ (args .at) 27 (line-length (args .cell) (args .k + 1) (args .value))
+    (line-written part (front .write-front .last .0) (value .write-decimal .last .0) (args .cell) (args .k + 1) (args .value) room
+    (front .write-front .ensures)
+    (value .write-decimal .ensures ∙ ap (λ (z : ℤ). putWithin (front .write-front .last .0) 6 (decimal 20 z)) (toZ-ofZ (start .fits .value))))
 
 pub write-line-spec : {M : Type 1} → statement M
 write-line-spec =
     tie.close
     (tie.spec
-    write-two-requires
-    add-blank
-    slice-write-out
-    add-write-two
-    write-two-requires-2
-    add-second
-    slice-write-out-2
-    add-write-decimal
-    write-decimal-requires
     add-end
-    slice-write-out-3
+    sub-line
+    part-line-start
+    part-line-end
+    write-front-requires
+    write-decimal-requires
+    slice-write-line
     same-length
     returns)

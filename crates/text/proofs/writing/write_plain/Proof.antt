@@ -1,10 +1,10 @@
--- `writing::write_plain` meets its contract: blanks, the last digit, then the columns before it. No assumptions.
-use Prim.Native.Nat.{_+_, _-_, _%_}
+-- `writing::write_plain` meets its contract: blanks, then a lone zero or digits, with the mark. No assumptions.
+use Prim.Native.Nat.{_+_, _-_}
 use mathlib.Core.Path.{_≡_, _∙_}
 use native.Mathlib.Omega.{arith}
-use borrow.Author.Needs.{needs}
 use lib.ListN.{length, length-set}
-use Rattle.text.proofs.DecimalLaws.{plain-blank, plain-written}
+use Rattle.text.proofs.DecimalLaws.{over-blank, zero-blank, zero-written, digits-written}
+use borrow.Author.Needs.{needs}
 use Rattle.text.proofs.writing.write_plain.Statement.{statement}
 use Rattle.text.proofs.writing.write_plain.Tie as tie
 
@@ -17,45 +17,61 @@ sub-before c = search needs
 add-last : tie.Need-add-last
 add-last c = search needs
 
-cast-out : tie.Need-cast-out
-cast-out c = search needs
-
-add-out : tie.Need-add-out
-add-out c = search needs
-
 slice-write-out : tie.Need-slice-write-out
 slice-write-out c = search needs
 
-write-pairs-requires : tie.Need-write-pairs-requires
-write-pairs-requires c κs =
-    let at-blanks = c .before .before .before in
-    let at-start = at-blanks .before .before .before in
-    let args = at-start .args in
+write-mark-requires : tie.Need-write-mark-requires
+write-mark-requires c κs =
+    let at-blanks = c .before .before .before .before in
+    let start = at-blanks .before .before .before in
+    let args = start .args in
     let blanks = at-blanks .write-blanks in
     let long : length (blanks .last .0) ≡ length (args .out .now) = blanks .kept .0 in (
       simp length-set (omega arith),
-      plain-blank (args .out .now) (blanks .last .0) (args .at) (args .width) (args .n)
-          (at-start .pre .0) (at-start .pre .1) (blanks .ensures),
+      zero-blank (args .out .now) (blanks .last .0) (args .at) (args .width) (start .pre .0) (start .pre .1) (blanks .ensures),
     )
 
 same-length : tie.Need-same-length
 same-length c =
-    let at-pairs = c .before .before in
-    let at-blanks = at-pairs .before .before .before .before in
+    let at-mark = c .before .before in
+    let at-blanks = at-mark .before .before .before .before .before in
     let args = at-blanks .before .before .before .args in
-    at-pairs .write-pairs .kept .0
-    ∙ length-set (at-blanks .write-blanks .last .0) (args .at + (args .width - 1)) (48 + args .n % 10)
+    at-mark .write-mark .kept .0
+    ∙ length-set (at-blanks .write-blanks .last .0) (args .at + (args .width - 1)) 48
     ∙ at-blanks .write-blanks .kept .0
 
 returns : tie.Need-returns
 returns c =
-    let at-pairs = c .before .before in
-    let at-blanks = at-pairs .before .before .before .before in
-    let at-start = at-blanks .before .before .before in
-    let args = at-start .args in
-    plain-written (args .out .now) (at-blanks .write-blanks .last .0) (args .at) (args .width) (args .n)
-    (at-start .pre .0) (at-start .pre .1) (at-blanks .write-blanks .ensures)
-    (at-pairs .write-pairs .last .0) (args .mark) (at-pairs .write-pairs .ensures)
+    let at-mark = c .before .before in
+    let at-blanks = at-mark .before .before .before .before .before in
+    let start = at-blanks .before .before .before in
+    let args = start .args in
+    zero-written (args .out .now) (at-blanks .write-blanks .last .0) (args .at) (args .width) (start .pre .0) (start .pre .1)
+    (at-blanks .write-blanks .ensures) (at-mark .write-mark .last .0) (args .mark) (args .n) (omega arith) (at-mark .write-mark .ensures)
+
+write-columns-requires : tie.Need-write-columns-requires
+write-columns-requires c κs =
+    let at-blanks = c .before .before .before .before in
+    let start = at-blanks .before .before .before in
+    let args = start .args in
+    let blanks = at-blanks .write-blanks in
+    let long : length (blanks .last .0) ≡ length (args .out .now) = blanks .kept .0 in (
+      omega arith,
+      over-blank (args .out .now) (blanks .last .0) (args .at) (args .width) (start .pre .0) (start .pre .1) (blanks .ensures),
+    )
+
+same-length-2 : tie.Need-same-length-2
+same-length-2 c = search needs
+
+returns-2 : tie.Need-returns-2
+returns-2 c =
+    let at-columns = c .before .before in
+    let at-blanks = at-columns .before .before .before .before .before in
+    let start = at-blanks .before .before .before in
+    let args = start .args in
+    digits-written (args .out .now) (at-blanks .write-blanks .last .0) (args .at) (args .width) (start .pre .0) (start .pre .1)
+    (at-blanks .write-blanks .ensures) (at-columns .write-columns .last .0) (args .mark) (args .n) (at-columns .before .before .if1 .left)
+    (at-columns .write-columns .ensures)
 
 pub write-plain-spec : {M : Type 1} → statement M
 write-plain-spec =
@@ -64,9 +80,10 @@ write-plain-spec =
     write-blanks-requires
     sub-before
     add-last
-    cast-out
-    add-out
     slice-write-out
-    write-pairs-requires
+    write-mark-requires
     same-length
-    returns)
+    returns
+    write-columns-requires
+    same-length-2
+    returns-2)

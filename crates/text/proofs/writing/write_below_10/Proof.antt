@@ -1,0 +1,88 @@
+-- `writing::write_below_10` meets its contract: no digit, no column to write in, one digit. No assumptions.
+use Prim.Native.Nat.{ℕ, _+_, _-_}
+use mathlib.Core.Path.{_≡_, sym, ap, _∙_}
+use native.Mathlib.Omega.{arith}
+use lib.ListN.{length-set}
+use Rattle.text.specs.Writes.{put}
+use Rattle.text.specs.Decimals.{columns}
+use Rattle.text.proofs.DecimalLaws.{columns-end, blank-set}
+use Rattle.text.proofs.DigitLaws.{digit-turn}
+use borrow.Author.Needs.{needs}
+use Rattle.text.proofs.writing.write_below_10.Statement.{statement}
+use Rattle.text.proofs.writing.write_below_10.Tie as tie
+
+write-mark-requires : tie.Need-write-mark-requires
+write-mark-requires c κs = search needs
+
+same-length : tie.Need-same-length
+same-length c = search needs
+
+returns : tie.Need-returns
+returns c =
+    let at-mark = c .before .before in
+    let args = at-mark .before .before .before .before .args in
+    let none : 0 ≡ args .n = omega arith in
+    at-mark .write-mark .ensures
+    ∙ ap (λ (n : ℕ). put (args .out .now) (args .at) (columns (args .width) (args .mark) n)) none
+
+returns-2 : tie.Need-returns-2
+returns-2 c =
+    let args = c .before .before .before .args in
+    sym (columns-end (args .out .now) (args .at) (args .width) (args .mark) (args .n) (omega arith))
+
+sub-before : tie.Need-sub-before
+sub-before c = search needs
+
+add-last : tie.Need-add-last
+add-last c = search needs
+
+cast-out : tie.Need-cast-out
+cast-out c = search needs
+
+add-out : tie.Need-add-out
+add-out c = search needs
+
+slice-write-out : tie.Need-slice-write-out
+slice-write-out c = search needs
+
+write-mark-requires-2 : tie.Need-write-mark-requires-2
+write-mark-requires-2 c κs =
+    let start = c .before .before .before .before in
+    let args = start .args in
+    let before = args .width - 1 in (
+      simp length-set (omega arith),
+      blank-set (args .out .now) (args .at) (args .width) before (args .at + before) (48 + args .n) (start .pre .1)
+          (omega arith) (omega arith),
+    )
+
+same-length-2 : tie.Need-same-length-2
+same-length-2 c =
+    let at-mark = c .before .before in
+    let args = at-mark .before .before .before .before .before .args in
+    at-mark .write-mark2 .kept .0 ∙ length-set (args .out .now) (args .at + (args .width - 1)) (48 + args .n)
+
+returns-3 : tie.Need-returns-3
+returns-3 c =
+    let at-mark = c .before .before in
+    let start = at-mark .before .before .before .before .before in
+    let args = start .args in
+    at-mark .write-mark2 .ensures
+    ∙ digit-turn (args .out .now) (args .at) (args .width) (args .mark) (args .n)
+    (omega arith) (start .pre .0 .1) (omega arith) (start .pre .0 .0)
+
+pub write-below-10-spec : {M : Type 1} → statement M
+write-below-10-spec =
+    tie.close
+    (tie.spec
+    write-mark-requires
+    same-length
+    returns
+    returns-2
+    sub-before
+    add-last
+    cast-out
+    add-out
+    slice-write-out
+    write-mark-requires-2
+    same-length-2
+    returns-3)

@@ -1,0 +1,91 @@
+-- `writing::write_below_10000` meets its contract: two digits, too few columns, more than two digits. No assumptions.
+use Prim.Native.Nat.{ℕ, _+_, _-_, _*_, _/_}
+use mathlib.Core.List.{List}
+use mathlib.Core.Path.{_≡_, refl, sym, ap, _∙_, subst}
+use native.Mathlib.Omega.{arith}
+use lib.ListN.{length}
+use Rattle.text.specs.Writes.{put}
+use Rattle.text.specs.Decimals.{columns}
+use Rattle.text.specs.Stages.{Blank, pair}
+use Rattle.text.proofs.DigitLaws.{blank-put, pair-turn, pair-last}
+use borrow.Author.Needs.{needs}
+use Rattle.text.proofs.writing.write_below_10000.Statement.{statement}
+use Rattle.text.proofs.writing.write_below_10000.Tie as tie
+
+write-below-100-requires : tie.Need-write-below-100-requires
+write-below-100-requires c κs = search needs
+
+same-length : tie.Need-same-length
+same-length c = search needs
+
+returns : tie.Need-returns
+returns c = search needs
+
+write-singles-requires : tie.Need-write-singles-requires
+write-singles-requires c κs = search needs
+
+same-length-2 : tie.Need-same-length-2
+same-length-2 c = search needs
+
+returns-2 : tie.Need-returns-2
+returns-2 c = search needs
+
+add-write-pair : tie.Need-add-write-pair
+add-write-pair c = search needs
+
+mul-write-pair : tie.Need-mul-write-pair
+mul-write-pair c = search needs
+
+sub-write-pair : tie.Need-sub-write-pair
+sub-write-pair c = search needs
+
+write-pair-requires : tie.Need-write-pair-requires
+write-pair-requires c κs = search needs
+
+write-below-100-requires-2 : tie.Need-write-below-100-requires-2
+write-below-100-requires-2 c κs =
+    let at-pair = c .before .before .before in
+    let start = at-pair .before .before .before .before .before in
+    let args = start .args in
+    let before = args .width - 2 in
+    let n = args .n in
+    let long : length (at-pair .write-pair .last .0) ≡ length (args .out .now) = at-pair .write-pair .kept .0 in (
+      (omega arith, omega arith),
+      subst (λ (l : List ℕ). Blank l (args .at) before) (sym (at-pair .write-pair .ensures))
+          (blank-put (args .out .now) (args .at) (args .width) before (args .at + before) (pair (n - n / 100 * 100))
+          (start .pre .1) (omega arith) (omega arith) (omega arith)),
+    )
+
+same-length-3 : tie.Need-same-length-3
+same-length-3 c = search needs
+
+returns-3 : tie.Need-returns-3
+returns-3 c =
+    let at-rest = c .before .before in
+    let at-pair = at-rest .before .before .before .before in
+    let start = at-pair .before .before .before .before .before in
+    let args = start .args in
+    let before = args .width - 2 in
+    let n = args .n in
+    at-rest .write-below-1002 .ensures
+    ∙ ap (λ (l : List ℕ). put l (args .at) (columns before (args .mark) (n / 100)))
+    (at-pair .write-pair .ensures ∙ ap (put (args .out .now) (args .at + before)) (pair-last n (n / 100) refl))
+    ∙ pair-turn (args .out .now) (args .at) (args .width) (args .mark) n (start .pre .0 .1) (omega arith) (omega arith)
+
+pub write-below-10000-spec : {M : Type 1} → statement M
+write-below-10000-spec =
+    tie.close
+    (tie.spec
+    write-below-100-requires
+    same-length
+    returns
+    write-singles-requires
+    same-length-2
+    returns-2
+    add-write-pair
+    mul-write-pair
+    sub-write-pair
+    write-pair-requires
+    write-below-100-requires-2
+    same-length-3
+    returns-3)
