@@ -35,6 +35,10 @@ pub every-none : (p : ℕ → Bool) → every 0 p ≡ true
 unfolding every
 every-none p = refl
 
+pub every-next : (n : ℕ) (p : ℕ → Bool) → every (n + 1) p ≡ every n p && p n
+unfolding every
+every-next n p = rw add-one
+
 pub every-more : (n : ℕ) (p : ℕ → Bool) → every n p ≡ true → p n ≡ true → every (n + 1) p ≡ true
 unfolding every
 every-more n p e h = rw (add-one, e, h)

@@ -1,7 +1,7 @@
 -- Check 4: `amountsFit` and `carriesFit` by the parts that the code tests, and as facts of each amount and carry, both
 -- ways; then what is known of a river of which check 4 does not hold, and when it does not. No assumptions.
 use Prim.Native.Nat.{ℕ, _<_, _≤_, _+_, _*_, _-_, _/_, _%_}
-use mathlib.Core.Bool.{Bool, true, false, _&&_, cond}
+use mathlib.Core.Bool.{not, Bool, true, false, _&&_, cond}
 use mathlib.Core.List.{List}
 use mathlib.Core.Path.{_≡_, refl, sym, ap, ap₂, _∙_}
 use native.Mathlib.Decide.{decLt}
@@ -174,6 +174,17 @@ pub river-right : (r : River) → 1 ≤ r .cells → r .cells ≤ mostCells
     → amountsFit (r .cells) (r .amounts) ≡ true → carriesFit (r .cells) (r .carries) ≡ true → riverWrong r ≡ false
 unfolding riverWrong cellsFit
 river-right r l h a c = rw (le-leb 1 (r .cells) l, le-leb (r .cells) mostCells h, a, c)
+
+-- Check 4 in two parts, one for each array.
+pub wrong-parts : (r : River)
+    → riverWrong r
+    ≡ not ((cellsFit (r .cells) && amountsFit (r .cells) (r .amounts)) && (cellsFit (r .cells) && carriesFit (r .cells) (r .carries)))
+unfolding riverWrong
+wrong-parts r = ap not (both (cellsFit (r .cells)) (amountsFit (r .cells) (r .amounts)) (carriesFit (r .cells) (r .carries)))
+  where
+    both : (c a s : Bool) → c && a && s ≡ (c && a) && (c && s)
+    both true a s = refl
+    both false a s = refl
 
 -- A river of which check 4 does not hold.
 module _ (r : River) (right : riverWrong r ≡ false) where

@@ -6,7 +6,6 @@ ghost use lib.IntN.{pos};
 ghost use Rattle.stoichiometry.specs.Substances.{o2, place};
 ghost use Rattle.river.specs.Rivers.{amountFits, levelOf};
 ghost use Rattle.river.specs.Air.{exchanged, gain, airFigureWrong};
-use crate::Aired;
 use crate::River;
 use numeric::both;
 use stoichiometry::Set;
@@ -58,14 +57,4 @@ pub(crate) fn gain_of(constant: u32, seconds: u32, saturation: u32, amount: i64)
 {
     let difference = wide(saturation) - oxygen_level(amount);
     difference * exchanged_part(constant, seconds) / BILLIONTHS * Set::GRAINS_PER_MICROGRAM_O
-}
-
-pub(crate) fn refused_air(number: u32, river: River) -> Aired
-    ensures { λ r. ⌜ r ≡ record { number = number; river = river; amount = pos 0 } ⌝ }
-{
-    Aired {
-        number: number,
-        river: river,
-        amount: 0,
-    }
 }

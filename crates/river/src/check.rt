@@ -132,15 +132,14 @@ fn carries_below_batch(end: usize, carries: &[u32; CARRIES]) -> bool
     requires { ⌜ end ≤ 136 ⌝ }
     ensures { λ r. ⌜ r ≡ every end (λ k. leb (getD (now (carries .entry)) k 0) 999999) ⌝ }
 {
+    // All are looked at, since nearly every river passes: without a way out of the loop four are tested at a time.
+    let mut right = true;
     let mut k = 0;
     while k < end {
-        if carries[k] <= River::CARRY_MOST {
-            k += 1;
-        } else {
-            return false;
-        }
+        right = both(right, carries[k] <= River::CARRY_MOST);
+        k += 1;
     }
-    true
+    right
 }
 
 // The carries from `start` on are zeros.
@@ -161,7 +160,7 @@ fn no_carry_from(start: usize, carries: &[u32; CARRIES]) -> bool
 }
 
 // The carries of the first n cells are below one batch, all others are 0.
-pub(crate) fn carries_fit(n: usize, carries: &[u32; CARRIES]) -> bool
+fn carries_fit(n: usize, carries: &[u32; CARRIES]) -> bool
     requires { ⌜ n ≤ 8 ⌝ }
     ensures { λ r. ⌜ r ≡ carriesFit n (now (carries .entry)) ⌝ }
 {
@@ -178,4 +177,24 @@ pub(crate) fn cells_fit(n: u32) -> bool
     ensures { λ r. ⌜ r ≡ cellsFit n ⌝ }
 {
     1 <= n && n <= CELLS as u32
+}
+
+// Check 4 in two parts, one for each array: the number of cells fits, and so do the amounts of these cells.
+pub(crate) fn amounts_right(cells: u32, amounts: &[i64; AMOUNTS]) -> bool
+    ensures { λ r. ⌜ r ≡ (cellsFit cells && amountsFit cells (now (amounts .entry))) ⌝ }
+{
+    if cells_fit(cells) {
+        return amounts_fit(cells as usize, amounts);
+    }
+    false
+}
+
+// The number of cells fits, and so do the carries of these cells.
+pub(crate) fn carries_right(cells: u32, carries: &[u32; CARRIES]) -> bool
+    ensures { λ r. ⌜ r ≡ (cellsFit cells && carriesFit cells (now (carries .entry))) ⌝ }
+{
+    if cells_fit(cells) {
+        return carries_fit(cells as usize, carries);
+    }
+    false
 }

@@ -7,20 +7,21 @@ ghost use Rattle.river.specs.Air.{airAnswer};
 ghost use Rattle.river.specs.Cells.{letterAnswer};
 use crate::air::figure_wrong;
 use crate::air::gain_of;
-use crate::air::refused_air;
 use crate::cells::NH4;
 use crate::cells::O2;
 use crate::cells::letter;
 use crate::check::amounts_fit;
-use crate::check::carries_fit;
+use crate::check::amounts_right;
+use crate::check::carries_right;
 use crate::check::cells_fit;
 use crate::flow::left_all;
 use crate::flow::moved_all;
 use crate::flow::refused_flow;
+use crate::load::amount_at;
 use crate::load::cell_exists;
+use crate::load::set_amount;
 use crate::load::substance_exists;
 use crate::load::sum_fits;
-use crate::load::with_amount;
 use numeric::both;
 use stoichiometry::SUBSTANCES;
 
@@ -135,16 +136,9 @@ pub struct Letter {
 pub fn river_wrong(river: River) -> bool
     ensures answer { λ r. ⌜ r ≡ riverWrong river ⌝ }
 {
-    let n = river.cells;
-    if cells_fit(n) {
-        if amounts_fit(n as usize, &river.amounts) {
-            !carries_fit(n as usize, &river.carries)
-        } else {
-            true
-        }
-    } else {
-        true
-    }
+    let amounts = amounts_right(river.cells, &river.amounts);
+    let carries = carries_right(river.cells, &river.carries);
+    !both(amounts, carries)
 }
 
 // The amounts of the river's cells are in their bounds, all others are 0. A number of cells above 8 is taken for 8.
@@ -185,33 +179,33 @@ pub fn letter_of(river: River, cell: u32) -> Letter
     }
 }
 
-fn refused(number: u32, river: River) -> Changed
-    ensures { λ r. ⌜ r ≡ record { number = number; river = river } ⌝ }
-{
-    Changed { number, river }
-}
-
 // Adds a number, of either sign, to an amount; the cell and the substance are counted from 1. Refuses with 4, 5 or 8,
 // in this order.
 pub fn load_river(river: River, cell: u32, substance: u32, number: i64) -> Changed
     ensures answer { λ r. ⌜ r ≡ loadAnswer river cell substance number ⌝ }
 {
-    if river_wrong(river) {
-        return refused(4, river);
+    // The answer's river is tested and changed in place, so that it is copied once.
+    let mut answer = Changed { number: 0, river };
+    let cells = answer.river.cells;
+    let amounts = amounts_right(cells, &answer.river.amounts);
+    let carries = carries_right(cells, &answer.river.carries);
+    if !both(amounts, carries) {
+        answer.number = 4;
+        return answer;
     }
-    if !both(cell_exists(river, cell), substance_exists(substance)) {
-        return refused(5, river);
+    if !both(cell_exists(cells, cell), substance_exists(substance)) {
+        answer.number = 5;
+        return answer;
     }
     let c = (cell - 1) as usize;
     let s = (substance - 1) as usize;
-    let amount = river.amounts[c * SUBSTANCES + s];
+    let amount = amount_at(&answer.river.amounts, c, s);
     if !sum_fits(s, amount, number) {
-        return refused(8, river);
+        answer.number = 8;
+        return answer;
     }
-    Changed {
-        number: 0,
-        river: with_amount(river, c, s, amount + number),
-    }
+    set_amount(&mut answer.river.amounts, c, s, amount + number);
+    answer
 }
 
 // A flow of a part. Refuses with 4 (a wrong river) or 6 (a part above 10,000), in this order. There is no test for 8:
@@ -247,21 +241,31 @@ pub fn flow_river(river: River, part: u32) -> Flowed
 pub fn air_river(river: River, cell: u32, constant: u32, seconds: u32, saturation: u32) -> Aired
     ensures answer { λ r. ⌜ r ≡ airAnswer river cell constant seconds saturation ⌝ }
 {
-    if river_wrong(river) {
-        return refused_air(4, river);
+    // The answer's river is tested and changed in place, so that it is copied once.
+    let mut answer = Aired {
+        number: 0,
+        river,
+        amount: 0,
+    };
+    let cells = answer.river.cells;
+    let amounts = amounts_right(cells, &answer.river.amounts);
+    let carries = carries_right(cells, &answer.river.carries);
+    if !both(amounts, carries) {
+        answer.number = 4;
+        return answer;
     }
-    if !cell_exists(river, cell) {
-        return refused_air(5, river);
+    if !cell_exists(cells, cell) {
+        answer.number = 5;
+        return answer;
     }
     if figure_wrong(constant, seconds, saturation) {
-        return refused_air(6, river);
+        answer.number = 6;
+        return answer;
     }
     let c = (cell - 1) as usize;
-    let amount = river.amounts[c * SUBSTANCES + O2];
+    let amount = amount_at(&answer.river.amounts, c, O2);
     let brought = gain_of(constant, seconds, saturation, amount);
-    Aired {
-        number: 0,
-        river: with_amount(river, c, O2, amount + brought),
-        amount: brought,
-    }
+    set_amount(&mut answer.river.amounts, c, O2, amount + brought);
+    answer.amount = brought;
+    answer
 }

@@ -1,12 +1,15 @@
 // Load: a whole number of either sign is added to one amount. Also what other calls on one cell share: whether the cell
-// exists, and the river with one amount changed.
+// exists, one amount and its change.
 ghost use mathlib.Core.Path.{_≡_};
-ghost use Prim.Native.Nat.{_<_, _≤_};
+ghost use mathlib.Core.Bool.{_&&_};
+ghost use Prim.Native.Nat.{_+_, _*_, _<_, _≤_};
+ghost use lib.Dec.{leb};
+ghost use lib.ListN.{set};
 ghost use lib.IntN.{natAbs, _+ℤ_};
 ghost use Rattle.stoichiometry.specs.Substances.{substances};
-ghost use Rattle.river.specs.Rivers.{mostCells, amountFits};
-ghost use Rattle.river.specs.Load.{cellExists, substanceExists, withAmount};
-use crate::River;
+ghost use Rattle.river.specs.Rivers.{mostCells, amountFits, amountAt};
+ghost use Rattle.river.specs.Load.{substanceExists};
+use crate::AMOUNTS;
 use crate::check::amount_fits;
 use numeric::both;
 use stoichiometry::SUBSTANCES;
@@ -15,10 +18,10 @@ use stoichiometry::SUBSTANCES;
 const LOAD_MOST: i64 = 2000000000000000000;
 
 // A cell and a substance by their numbers, counted from 1.
-pub(crate) fn cell_exists(river: River, cell: u32) -> bool
-    ensures { λ r. ⌜ r ≡ cellExists river cell ⌝ }
+pub(crate) fn cell_exists(cells: u32, cell: u32) -> bool
+    ensures { λ r. ⌜ r ≡ (leb 1 cell && leb cell cells) ⌝ }
 {
-    both(1 <= cell, cell <= river.cells)
+    both(1 <= cell, cell <= cells)
 }
 
 pub(crate) fn substance_exists(substance: u32) -> bool
@@ -27,15 +30,21 @@ pub(crate) fn substance_exists(substance: u32) -> bool
     both(1 <= substance, substance as usize <= SUBSTANCES)
 }
 
-// The river with amount s of cell c changed, both counted from 0.
-pub(crate) fn with_amount(river: River, c: usize, s: usize, x: i64) -> River
+// Amount s of cell c, both counted from 0; and a new one in its place.
+pub(crate) fn amount_at(amounts: &[i64; AMOUNTS], c: usize, s: usize) -> i64
     requires cell { ⌜ c < mostCells ⌝ }
     requires substance { ⌜ s < substances ⌝ }
-    ensures { λ r. ⌜ r ≡ withAmount river c s x ⌝ }
+    ensures { λ r. ⌜ r ≡ amountAt (now (amounts .entry)) c s ⌝ }
 {
-    let mut changed = river;
-    changed.amounts[c * SUBSTANCES + s] = x;
-    changed
+    amounts[c * SUBSTANCES + s]
+}
+
+pub(crate) fn set_amount(amounts: &mut [i64; AMOUNTS], c: usize, s: usize, x: i64)
+    requires cell { ⌜ c < mostCells ⌝ }
+    requires substance { ⌜ s < substances ⌝ }
+    ensures { λ _. ⌜ now (amounts .exit) ≡ set (now (amounts .entry)) (c * substances + s) x ⌝ }
+{
+    amounts[c * SUBSTANCES + s] = x;
 }
 
 // Whether amount + number is in the bounds of the substance at place s. A number that is too large is not added, so

@@ -2,8 +2,8 @@
 -- law air-never-eight. No assumptions.
 use Prim.Native.Nat.{_-_, _≤_}
 use native.Mathlib.Omega.{arith}
-use mathlib.Core.Bool.{true, false}
-use mathlib.Core.Path.{_≡_, sym, _∙_}
+use mathlib.Core.Bool.{true, false, not, _&&_}
+use mathlib.Core.Path.{_≡_, sym, ap, ap₂, _∙_}
 use borrow.Author.Needs.{needs, sfits-of}
 use borrow.Author.Tests.{not-false}
 use lib.Dec.{lit<}
@@ -18,46 +18,56 @@ use Rattle.stoichiometry.specs.Substances.{o2, place}
 use Rattle.river.specs.Rivers.{mostCells, amountFits, amountAt, riverWrong}
 use Rattle.river.specs.Load.{cellExists}
 use Rattle.river.specs.Air.{gainAt, airFigureWrong, airNumber, airAnswer}
-use Rattle.river.proofs.Rivers.{river-cells, amount-fits-at, cell-bound}
+use Rattle.river.proofs.Rivers.{wrong-parts, river-cells, amount-fits-at, cell-bound}
 use Rattle.river.proofs.AirLaws.{oxygen-bound, air-never-eight}
 use Rattle.river.proofs.air_river.Statement.{statement}
 use Rattle.river.proofs.air_river.Tie as tie
 
-right : (c : tie.Else1) → riverWrong (c .before .before .args .t1) ≡ false
-right c = sym (c .before .river-wrong .ensures) ∙ c .if1 .left
+abbrev begun : tie.After-both → tie.Start
+begun c = c .before .before .before .before .before .before .before
 
-exists : (c : tie.Else2)
-    → cellExists (c .before .before .before .before .args .t1) (c .before .before .before .before .args .cell) ≡ true
+wrong : (c : tie.After-both) → riverWrong (begun c .args .river) ≡ not (c .both .result)
+wrong c =
+    let carries = c .before in
+    let amounts = carries .before .before .before in
+    wrong-parts (begun c .args .river)
+    ∙ ap not (sym (c .both .ensures ∙ ap₂ _&&_ (amounts .amounts-right .ensures) (carries .carries-right .ensures)))
+
+right : (c : tie.Else1) → riverWrong (begun (c .before) .args .river) ≡ false
+right c = wrong (c .before) ∙ c .if1 .left
+
+exists : (c : tie.Else2) → let args = begun (c .before .before .before) .args in cellExists (args .river) (args .cell) ≡ true
+unfolding cellExists
 exists c = sym (c .before .cell-exists .ensures) ∙ not-false _ (c .if2 .left)
 
 -- From here on check 4 does not hold, the cell exists and the figures are in range.
 abbrev start : tie.Else3 → tie.Start
-start c = c .before .before .before .before .before .before
+start c = begun (c .before .before .before .before .before)
 
 figures : (c : tie.Else3)
     → airFigureWrong (start c .args .constant) (start c .args .seconds) (start c .args .saturation) ≡ false
 figures c = sym (c .before .figure-wrong .ensures) ∙ c .if3 .left
 
-cell-known : (c : tie.Else3) → (1 ≤ start c .args .cell) × (start c .args .cell ≤ start c .args .t1 .cells)
-cell-known c = cell-bound (start c .args .t1) (start c .args .cell) (exists (c .before .before))
+cell-known : (c : tie.Else3) → (1 ≤ start c .args .cell) × (start c .args .cell ≤ start c .args .river .cells)
+cell-known c = cell-bound (start c .args .river) (start c .args .cell) (exists (c .before .before))
 
-cells-known : (c : tie.Else3) → start c .args .t1 .cells ≤ mostCells
-cells-known c = river-cells (start c .args .t1) (right (c .before .before .before .before)) .1
+cells-known : (c : tie.Else3) → start c .args .river .cells ≤ mostCells
+cells-known c = river-cells (start c .args .river) (right (c .before .before .before .before)) .1
 
 -- The amount of O2 before, and what air brings.
 abbrev amount : tie.Else3 → ℤ
-amount c = amountAt (start c .args .t1 .amounts) (start c .args .cell - 1) (place o2)
+amount c = amountAt (start c .args .river .amounts) (start c .args .cell - 1) (place o2)
 
 abbrev brought : tie.Else3 → ℤ
 brought c =
     let a = start c .args in
-    gainAt (a .t1) (a .cell - 1) (a .constant) (a .seconds) (a .saturation)
+    gainAt (a .river) (a .cell - 1) (a .constant) (a .seconds) (a .saturation)
 
 amount-fits : (c : tie.Else3) → amountFits (place o2) (amount c) ≡ true
 amount-fits c =
     let a = start c .args in
     let cell = cell-known c in
-    amount-fits-at (a .t1) (right (c .before .before .before .before)) (a .cell - 1) (place o2) (omega arith) (lit< tt)
+    amount-fits-at (a .river) (right (c .before .before .before .before)) (a .cell - 1) (place o2) (omega arith) (lit< tt)
 
 amount-kept : (c : tie.Else3) → kept (amount c) ≡ amount c
 amount-kept c = toZ-ofZ (fits-abs (amount c) (omega (arith, oxygen-bound (amount c) (amount-fits c))))
@@ -65,59 +75,52 @@ amount-kept c = toZ-ofZ (fits-abs (amount c) (omega (arith, oxygen-bound (amount
 never-eight : (c : tie.Else3) → amountFits (place o2) (amount c +ℤ brought c) ≡ true
 never-eight c =
     let a = start c .args in
-    air-never-eight (a .t1) (a .cell) (a .constant) (a .seconds) (a .saturation)
+    air-never-eight (a .river) (a .cell) (a .constant) (a .seconds) (a .saturation)
     (right (c .before .before .before .before)) (exists (c .before .before)) (figures c)
 
 sum-fits : (c : tie.Else3) → SFits w64 (amount c +ℤ brought c)
 sum-fits c = fits-abs _ (omega (arith, oxygen-bound (amount c +ℤ brought c) (never-eight c)))
 
 -- What `gain_of` answered.
-gain-kept : (c : tie.After-gain-of) → kept (c .gain-of .result) ≡ brought (c .before .before)
-gain-kept c = toZ-ofZ (sfits-of (c .gain-of .ok)) ∙ (rw (amount-kept (c .before .before)) at (c .gain-of .ensures))
+gain-kept : (c : tie.After-gain-of) → kept (c .gain-of .result) ≡ brought (c .before .before .before .before)
+gain-kept c =
+    toZ-ofZ (sfits-of (c .gain-of .ok))
+    ∙ (rw (c .before .amount-at .ensures, amount-kept (c .before .before .before .before)) at (c .gain-of .ensures))
 
-river-wrong-requires : tie.Need-river-wrong-requires
-river-wrong-requires c κs = search needs
+amounts-right-requires : tie.Need-amounts-right-requires
+amounts-right-requires c κs = search needs
 
-refused-air-requires : tie.Need-refused-air-requires
-refused-air-requires c κs = search needs
+carries-right-requires : tie.Need-carries-right-requires
+carries-right-requires c κs = search needs
+
+both-requires : tie.Need-both-requires
+both-requires c κs = search needs
 
 -- Refused by 4.
 returns : tie.Need-returns
 unfolding airAnswer airNumber firstHolding
-returns c = rw (sym (c .before .before .river-wrong .ensures) ∙ c .before .if1 .taken) (c .refused-air .ensures)
+returns c = rw (wrong (c .before), c .if1 .taken)
 
 cell-exists-requires : tie.Need-cell-exists-requires
 cell-exists-requires c κs = search needs
 
-refused-air-requires-2 : tie.Need-refused-air-requires-2
-refused-air-requires-2 c κs = search needs
-
 -- Refused by 5.
 returns-2 : tie.Need-returns-2
-unfolding airAnswer airNumber firstHolding
+unfolding airAnswer airNumber firstHolding cellExists
 returns-2 c =
-    let at-cell = c .before .before in
-    rw (right (at-cell .before), ← at-cell .cell-exists .ensures, c .before .if2 .taken) (c .refused-air2 .ensures)
+    let at-cell = c .before in
+    rw (right (at-cell .before), ← at-cell .cell-exists .ensures, c .if2 .taken)
 
 figure-wrong-requires : tie.Need-figure-wrong-requires
 figure-wrong-requires c κs = search needs
-
-refused-air-requires-3 : tie.Need-refused-air-requires-3
-refused-air-requires-3 c κs = search needs
 
 -- Refused by 6.
 returns-3 : tie.Need-returns-3
 unfolding airAnswer airNumber firstHolding
 returns-3 c =
-    let at-figures = c .before .before in
-    let at-cell = at-figures .before .before in
-    rw (
-      right (at-cell .before),
-      exists (at-figures .before),
-      ← at-figures .figure-wrong .ensures,
-      c .before .if3 .taken,
-    )
-    (c .refused-air3 .ensures)
+    let at-figures = c .before in
+    let at-exists = at-figures .before in
+    rw (right (at-exists .before .before), exists at-exists, ← at-figures .figure-wrong .ensures, c .if3 .taken)
 
 sub-c : tie.Need-sub-c
 sub-c c = cell-known c .0
@@ -125,46 +128,45 @@ sub-c c = cell-known c .0
 cast-c : tie.Need-cast-c
 cast-c c = search needs
 
-mul-amount : tie.Need-mul-amount
-mul-amount c = search needs
-
-add-amount : tie.Need-add-amount
-add-amount c = search needs
-
-mul-amount-2 : tie.Need-mul-amount-2
-mul-amount-2 c = search needs
-
-element-copy-out-amount : tie.Need-element-copy-out-amount
-element-copy-out-amount c =
-    let cell = cell-known c in
-    let cells = cells-known c in
-    omega arith
+amount-at-requires : tie.Need-amount-at-requires
+amount-at-requires c κs =
+    let at-checks = c .before .before in
+    let cell = cell-known at-checks in
+    let cells = cells-known at-checks in
+    (omega arith, lit< tt)
 
 gain-of-requires : tie.Need-gain-of-requires
-gain-of-requires c κs = (figures (c .before), rw (amount-kept (c .before)) (amount-fits (c .before)))
+gain-of-requires c κs =
+    let at-checks = c .before .before .before in
+    (figures at-checks, rw (c .amount-at .ensures, amount-kept at-checks) (amount-fits at-checks))
 
-add-with-amount : tie.Need-add-with-amount
-add-with-amount c = rw (amount-kept (c .before .before), gain-kept c) (sum-fits (c .before .before))
+add-set-amount : tie.Need-add-set-amount
+add-set-amount c =
+    let at-checks = c .before .before .before .before .before in
+    rw (c .before .before .amount-at .ensures, amount-kept at-checks, gain-kept (c .before)) (sum-fits at-checks)
 
-with-amount-requires : tie.Need-with-amount-requires
-with-amount-requires c κs =
-    let cell = cell-known (c .before .before) in
-    let cells = cells-known (c .before .before) in
+set-amount-requires : tie.Need-set-amount-requires
+set-amount-requires c κs =
+    let at-checks = c .before .before .before .before .before in
+    let cell = cell-known at-checks in
+    let cells = cells-known at-checks in
     (omega arith, lit< tt)
 
 -- The gain is added.
 returns-4 : tie.Need-returns-4
 unfolding airAnswer airNumber firstHolding
 returns-4 c =
-    let at-checks = c .before .before .before in
+    let at-gain = c .before .before in
+    let at-checks = at-gain .before .before .before .before in
     rw (
+      c .set-amount .ensures,
+      at-gain .before .amount-at .ensures,
       right (at-checks .before .before .before .before),
       exists (at-checks .before .before),
       figures at-checks,
       never-eight at-checks,
-      c .with-amount .ensures,
       amount-kept at-checks,
-      gain-kept (c .before),
+      gain-kept at-gain,
       toZ-ofZ (sum-fits at-checks),
     )
 
@@ -172,22 +174,18 @@ pub air-river-spec : {M : Type 1} → statement M
 air-river-spec =
     tie.close
     (tie.spec
-    river-wrong-requires
-    refused-air-requires
+    amounts-right-requires
+    carries-right-requires
+    both-requires
     returns
     cell-exists-requires
-    refused-air-requires-2
     returns-2
     figure-wrong-requires
-    refused-air-requires-3
     returns-3
     sub-c
     cast-c
-    mul-amount
-    add-amount
-    mul-amount-2
-    element-copy-out-amount
+    amount-at-requires
     gain-of-requires
-    add-with-amount
-    with-amount-requires
+    add-set-amount
+    set-amount-requires
     returns-4)

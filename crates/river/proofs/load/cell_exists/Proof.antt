@@ -1,6 +1,5 @@
 -- `load::cell_exists` meets its contract: what the call of `both` ensures. No assumptions.
 use borrow.Author.Needs.{needs}
-use Rattle.river.specs.Load.{cellExists}
 use Rattle.river.proofs.load.cell_exists.Statement.{statement}
 use Rattle.river.proofs.load.cell_exists.Tie as tie
 
@@ -8,7 +7,6 @@ both-requires : tie.Need-both-requires
 both-requires c κs = search needs
 
 returns : tie.Need-returns
-unfolding cellExists
 returns c = c .both .ensures
 
 pub cell-exists-spec : {M : Type 1} → statement M
