@@ -1,69 +1,82 @@
--- What the reading loops find: the value on a line of a text, a carry's range, one cell more. No assumptions.
-use mathlib.Core.Path.{_≡_, refl, ap, subst, _∙_}
-use mathlib.Core.Bool.{true, _&&_, cond}
+-- What the reading loops find: the value on a line of a text, its range, a line more, a cell more. No assumptions.
+use mathlib.Core.Path.{_≡_, ap}
+use mathlib.Core.Bool.{true, cond}
 use mathlib.Core.List.{List}
 use Prim.Native.Nat.{ℕ, _+_, _-_, _*_, _/_, _%_, _≤_, _<_}
 use native.Mathlib.Omega.{arith}
 use borrow.Author.Tests.{lt-ltb, le-ltb}
 use lib.Dec.{ltb, lit<}
-use lib.IntN.{ℤ, pos, negℤ, natAbs}
+use lib.IntN.{ℤ, pos, natAbs}
+use lib.ListN.{set}
 use lib.Signed.{_≤ℤ_}
-use Rattle.numeric.specs.Check.{every}
+use Rattle.numeric.specs.Table.{run}
 use Rattle.numeric.proofs.Bounds.{abs-from, abs-of-nonneg}
-use Rattle.numeric.proofs.CheckLaws.{every-append, row-beyond}
+use Rattle.numeric.proofs.CheckLaws.{row-beyond}
 use Rattle.numeric.proofs.Comparison.{leZ-true}
+use Rattle.numeric.proofs.Filling.{run-more}
 use Rattle.stoichiometry.specs.Substances.{substances}
 use Rattle.stoichiometry.specs.Rows.{processes}
-use Rattle.text.specs.declared.Number.{Number}
 use Rattle.text.specs.Blocks.{part}
 use Rattle.record.specs.Lines.{lines, lineBytes, cellBytes}
 use Rattle.record.specs.Reading.{lineNumber, lowestOn, highestOn, valueAt}
 use Rattle.record.proofs.LineLaws.{number-line}
 
 module _ (t : List ℕ) (c : ℕ) where
-  -- The value on the line of an amount, and on that of a carry.
-  pub amount-on : (k : ℕ) → k < substances
-      → lineNumber (part (c * cellBytes + k * lineBytes) lineBytes t) (c + 1) (k + 1) (negℤ (pos 1000000000000000000)) (pos 1000000000000000000)
+  -- The value on a line, where the loop finds it.
+  pub value-on : (k : ℕ)
+      → lineNumber (part (c * cellBytes + k * lineBytes) lineBytes t) (c + 1) (k + 1) (lowestOn k) (highestOn k)
       ≡ valueAt t c k
-  unfolding valueAt lowestOn highestOn
-  amount-on k h =
+  unfolding valueAt
+  value-on k =
       let place : c * cellBytes + k * lineBytes ≡ (c * lines + k) * lineBytes = omega arith in
-      rw (lt-ltb k substances h, place) refl
-
-  pub carry-on : (p : ℕ)
-      → lineNumber (part (c * cellBytes + substances * lineBytes + p * lineBytes) lineBytes t) (c + 1) (substances + p + 1) (pos 0) (pos 999999)
-      ≡ valueAt t c (substances + p)
-  unfolding valueAt lowestOn highestOn
-  carry-on p =
-      let place : c * cellBytes + substances * lineBytes + p * lineBytes ≡ (c * lines + (substances + p)) * lineBytes = omega arith in
-      rw (le-ltb (substances + p) substances (omega arith), place) refl
+      ap (λ (at : ℕ). lineNumber (part at lineBytes t) (c + 1) (k + 1) (lowestOn k) (highestOn k)) place
 
   -- What is read is within its limits.
+  value-within : (k : ℕ) → valueAt t c k .ok ≡ true
+      → (lowestOn k ≤ℤ valueAt t c k .value) × (valueAt t c k .value ≤ℤ highestOn k)
+  unfolding valueAt
+  value-within k e =
+      let l = part ((c * lines + k) * lineBytes) lineBytes t in
+      let known = number-line l (c + 1) (k + 1) (lowestOn k) (highestOn k) e in
+      (leZ-true (lowestOn k) (valueAt t c k .value) (known .1), leZ-true (valueAt t c k .value) (highestOn k) (known .2))
+
   pub amount-small : (k : ℕ) → k < substances → valueAt t c k .ok ≡ true → natAbs (valueAt t c k .value) ≤ 1000000000000000000
+  unfolding lowestOn highestOn
   amount-small k h e =
-      let l = part (c * cellBytes + k * lineBytes) lineBytes t in
-      let most = pos 1000000000000000000 in
-      let n = amount-on k h in
-      let z = lineNumber l (c + 1) (k + 1) (negℤ most) most .value in
-      let known = number-line l (c + 1) (k + 1) (negℤ most) most (ap (λ (m : Number). m .ok) n ∙ e) in
-      subst (λ (m : Number). natAbs (m .value) ≤ 1000000000000000000) n
-      (abs-from z 1000000000000000000 (leZ-true (negℤ most) z (known .1)) (leZ-true z most (known .2)))
+      let known = rw (lt-ltb k substances h) at (value-within k e) in
+      abs-from (valueAt t c k .value) 1000000000000000000 (known .0) (known .1)
 
-  pub carry-range : (p : ℕ) → valueAt t c (substances + p) .ok ≡ true
-      → (pos 0 ≤ℤ valueAt t c (substances + p) .value) × (natAbs (valueAt t c (substances + p) .value) ≤ 999999)
-  carry-range p e =
-      let l = part (c * cellBytes + substances * lineBytes + p * lineBytes) lineBytes t in
-      let n = carry-on p in
-      let z = lineNumber l (c + 1) (substances + p + 1) (pos 0) (pos 999999) .value in
-      let known = number-line l (c + 1) (substances + p + 1) (pos 0) (pos 999999) (ap (λ (m : Number). m .ok) n ∙ e) in
-      let low = leZ-true (pos 0) z (known .1) in
-      subst (λ (m : Number). (pos 0 ≤ℤ m .value) × (natAbs (m .value) ≤ 999999)) n
-      (low, abs-of-nonneg z 999999 low (leZ-true z (pos 999999) (known .2)))
+  pub carry-range : (k : ℕ) → substances ≤ k → valueAt t c k .ok ≡ true
+      → (pos 0 ≤ℤ valueAt t c k .value) × (natAbs (valueAt t c k .value) ≤ 999999)
+  unfolding lowestOn highestOn
+  carry-range k h e =
+      let known = rw (le-ltb k substances h) at (value-within k e) in
+      (known .0, abs-of-nonneg (valueAt t c k .value) 999999 (known .0) (known .1))
 
-  -- Every line of a cell has its value: those of the amounts, then those of the carries.
-  pub cell-right : every lines (λ k. valueAt t c k .ok)
-      ≡ every substances (λ k. valueAt t c k .ok) && every processes (λ p. valueAt t c (substances + p) .ok)
-  cell-right = every-append substances processes (λ k. valueAt t c k .ok)
+-- A line more of a cell, whose first lines are stored as amounts and those past them as carries.
+module _ {A : Type 0} (l m : List A) (b k : ℕ) (f : ℕ → A) where
+  pub amount-stored : k < substances → m ≡ run l b (k - (k - substances)) f → (v : A) → v ≡ f k
+      → set m (b + k) v ≡ run l b (k + 1 - (k + 1 - substances)) f
+  amount-stored h e v q =
+      let before : k - (k - substances) ≡ k = omega arith in
+      let after : k + 1 - (k + 1 - substances) ≡ k + 1 = omega arith in
+      rw after (run-more l b k f m v (rw before at e) q)
+
+  pub amounts-kept : substances ≤ k → m ≡ run l b (k - (k - substances)) f → m ≡ run l b (k + 1 - (k + 1 - substances)) f
+  amounts-kept h e =
+      let same : k - (k - substances) ≡ k + 1 - (k + 1 - substances) = omega arith in
+      rw same at e
+
+  pub carry-stored : substances ≤ k → m ≡ run l b (k - substances) f → (v : A) → v ≡ f (k - substances)
+      → set m (b + (k - substances)) v ≡ run l b (k + 1 - substances) f
+  carry-stored h e v q =
+      let after : k + 1 - substances ≡ k - substances + 1 = omega arith in
+      rw after (run-more l b (k - substances) f m v e q)
+
+  pub carries-kept : k < substances → m ≡ run l b (k - substances) f → m ≡ run l b (k + 1 - substances) f
+  carries-kept h e =
+      let same : k - substances ≡ k + 1 - substances = omega arith in
+      rw same at e
 
 -- Amount i and carry i of a text of n cells, and what they are in a cell and beyond the last.
 module _ (n : ℕ) (t : List ℕ) where

@@ -20,7 +20,7 @@ mod reading;
 mod writing;
 
 // Lines of a cell: its amounts, then its carries; bytes of a line, and of a cell's lines.
-const LINES: usize = SUBSTANCES + PROCESSES;
+pub(crate) const LINES: usize = SUBSTANCES + PROCESSES;
 
 pub(crate) const LINE_BYTES: usize = 27;
 

@@ -12,9 +12,10 @@ ghost use Rattle.text.specs.Blocks.{part};
 ghost use Rattle.text.specs.Decimals.{glyph};
 ghost use Rattle.text.specs.Reading.{none};
 ghost use Rattle.record.specs.Lines.{front};
-ghost use Rattle.record.specs.Reading.{sameBytes, lineNumber, valueAt, linesRight, amountsIn, carriesIn};
+ghost use Rattle.record.specs.Reading.{sameBytes, lineNumber, lowestOn, highestOn, valueAt, linesRight, amountsIn, carriesIn};
 use crate::CELL_BYTES;
 use crate::LINE_BYTES;
+use crate::LINES;
 use numeric::both;
 use river::AMOUNTS;
 use river::CARRIES;
@@ -86,60 +87,60 @@ fn line_number(text: &[u8], at: usize, cell: u32, number: u32, lowest: i64, high
     no_number()
 }
 
-// The amounts of cell c, counted from 0, if each of its lines has one.
-fn read_amounts(text: &[u8], c: usize, amounts: &mut [i64; AMOUNTS]) -> bool
+// The limits of the value on line k, counted from 0: any amount, or a carry.
+fn lowest_on(k: usize) -> i64
+    ensures { λ r. ⌜ r ≡ lowestOn k ⌝ }
+{
+    if k < SUBSTANCES { -River::NET_MOST } else { 0 }
+}
+
+fn highest_on(k: usize) -> i64
+    ensures { λ r. ⌜ r ≡ highestOn k ⌝ }
+{
+    if k < SUBSTANCES {
+        River::NET_MOST
+    } else {
+        River::CARRY_MOST as i64
+    }
+}
+
+// The amounts and then the carries of cell c, counted from 0, if each of its lines has its value. One loop over all lines,
+// so that a line is read from one place only and the compiler sets the reading of it into the loop.
+fn read_cell(
+    text: &[u8],
+    c: usize,
+    amounts: &mut [i64; AMOUNTS],
+    carries: &mut [u32; CARRIES],
+) -> bool
     requires { ⌜ (c < 8) × (c * 945 + 945 ≤ length (now text)) ⌝ }
-    ensures { λ r. ⌜ r ≡ every 18 (λ k. valueAt (now (text .entry)) c k .ok) ⌝ }
+    ensures { λ r. ⌜ r ≡ every 35 (λ k. valueAt (now (text .entry)) c k .ok) ⌝ }
     ensures { λ r. ⌜ (r ≡ true → now (amounts .exit) ≡ run (now (amounts .entry)) (c * 18) 18 (λ k. valueAt (now (text .entry)) c k .value)) ⌝ }
+    ensures { λ r. ⌜ (r ≡ true → now (carries .exit) ≡ run (now (carries .entry)) (c * 17) 17 (λ p. natAbs (valueAt (now (text .entry)) c (18 + p) .value))) ⌝ }
 {
     let start = c * CELL_BYTES;
-    let first = c * SUBSTANCES;
+    let amount = c * SUBSTANCES;
+    let carry = c * PROCESSES;
     let cell = (c + 1) as u32;
     let mut k = 0;
-    while k < SUBSTANCES {
+    while k < LINES {
         let number = line_number(
             text,
             start + k * LINE_BYTES,
             cell,
             (k + 1) as u32,
-            -River::NET_MOST,
-            River::NET_MOST,
+            lowest_on(k),
+            highest_on(k),
         );
         if !number.ok {
             return false;
         }
         let value = number.value;
-        amounts[first + k] = value;
-        k += 1;
-    }
-    true
-}
-
-// The carries of cell c, counted from 0, if each of its lines has one.
-fn read_carries(text: &[u8], c: usize, carries: &mut [u32; CARRIES]) -> bool
-    requires { ⌜ (c < 8) × (c * 945 + 945 ≤ length (now text)) ⌝ }
-    ensures { λ r. ⌜ r ≡ every 17 (λ p. valueAt (now (text .entry)) c (18 + p) .ok) ⌝ }
-    ensures { λ r. ⌜ (r ≡ true → now (carries .exit) ≡ run (now (carries .entry)) (c * 17) 17 (λ p. natAbs (valueAt (now (text .entry)) c (18 + p) .value))) ⌝ }
-{
-    let start = c * CELL_BYTES + SUBSTANCES * LINE_BYTES;
-    let first = c * PROCESSES;
-    let cell = (c + 1) as u32;
-    let mut p = 0;
-    while p < PROCESSES {
-        let number = line_number(
-            text,
-            start + p * LINE_BYTES,
-            cell,
-            (SUBSTANCES + p + 1) as u32,
-            0,
-            River::CARRY_MOST as i64,
-        );
-        if !number.ok {
-            return false;
+        if k < SUBSTANCES {
+            amounts[amount + k] = value;
+        } else {
+            carries[carry + (k - SUBSTANCES)] = value as u32;
         }
-        let value = number.value as u32;
-        carries[first + p] = value;
-        p += 1;
+        k += 1;
     }
     true
 }
@@ -159,10 +160,7 @@ pub(crate) fn read_cells(
 {
     let mut c = 0;
     while c < n {
-        if !read_amounts(text, c, amounts) {
-            return false;
-        }
-        if !read_carries(text, c, carries) {
+        if !read_cell(text, c, amounts, carries) {
             return false;
         }
         c += 1;

@@ -7,4 +7,5 @@ pub mod Magnitudes
 pub mod BlockLaws
 pub mod ReadingLaws
 pub mod ReadingLoop
+pub mod DigitLoop
 pub mod Cases

@@ -1,6 +1,6 @@
 -- The strict reader passes exactly the texts of numbers within its limits: `parse-decimal` and `parse-plain` (what is
 -- written is read back), `parse-only` (what passes is the text of its number). First: runs over bytes. The laws of the
--- loops that read: ReadingLoop.antt. No assumptions.
+-- loops that read: ReadingLoop.antt, DigitLoop.antt. No assumptions.
 use Prim.Native.Nat.{ℕ, zero, suc, _+_, _-_, _*_, _/_, _%_, _^_, _≤_, _<_}
 use mathlib.Core.Bool.{Bool, true, false, cond, _&&_, true≢false}
 use mathlib.Core.List.{List, [], _∷_, _++_, append-assoc, append-nil}
@@ -211,7 +211,7 @@ other-reads xs m r b h =
     (λ f. refl))
     (λ e. refl)
 
-digit-range : (b : ℕ) → isDigit b ≡ true → (48 ≤ b) × (b < 58)
+pub digit-range : (b : ℕ) → isDigit b ≡ true → (48 ≤ b) × (b < 58)
 unfolding isDigit
 digit-range b h = go (ltb b 48) refl h
   where

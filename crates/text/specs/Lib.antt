@@ -2,4 +2,5 @@ pub mod Writes
 pub mod Decimals
 pub mod Blocks
 pub mod Reading
+pub mod Digits
 pub mod Stages

@@ -1,15 +1,18 @@
 // Inner functions of the strict reader, in the order of the columns: blanks, a mark, digits. One pass over the bytes; a
 // text that is no number is refused at the byte that shows it. The public call is at the crate's root.
 ghost use mathlib.Core.Path.{_≡_};
-ghost use Prim.Native.Nat.{_≤_};
+ghost use Prim.Native.Nat.{_+_, _-_, _*_, _≤_};
 ghost use lib.ListN.{getD};
-ghost use Rattle.text.specs.Reading.{none, signed, within, parse};
+ghost use Rattle.text.specs.Reading.{isDigit, none, signed, within, finish, parse};
+ghost use Rattle.text.specs.Digits.{digitsSeen};
 ghost use Rattle.text.specs.Stages.{Blanks, Ready};
 use crate::Number;
 use numeric::both;
 
-// The most that one digit more may follow, so that every number read fits 64 bits.
-const MOST: u64 = 100_000_000_000_000_000;
+// As many digits fit 64 bits; a number of more is past the largest that is read.
+const DIGITS: usize = 19;
+
+const LARGEST: u64 = 1_000_000_000_000_000_009;
 
 // The answer of a text that is no number.
 fn none() -> Number
@@ -43,10 +46,44 @@ fn signed(mark: u8, size: u64) -> i64
     }
 }
 
+// The answer for columns of this mark and digits of this number.
+fn counted(lowest: i64, highest: i64, mark: u8, size: u64) -> Number
+    ensures { λ r. ⌜ r ≡ finish lowest highest (digitsSeen mark size) ⌝ }
+{
+    if size == 0 {
+        return none();
+    }
+    if size > LARGEST {
+        return none();
+    }
+    within(lowest, highest, signed(mark, size))
+}
+
+fn is_digit(b: u8) -> bool
+    ensures { λ r. ⌜ r ≡ isDigit b ⌝ }
+{
+    if b < b'0' {
+        return false;
+    }
+    if b > b'9' {
+        return false;
+    }
+    true
+}
+
 fn wide(x: u8) -> u64
     ensures { λ r. ⌜ r ≡ x ⌝ }
 {
     x as u64
+}
+
+// The number of two digits.
+fn pair(a: u8, b: u8) -> u64
+    requires { ⌜ (48 ≤ a) × (a ≤ 57) ⌝ }
+    requires { ⌜ (48 ≤ b) × (b ≤ 57) ⌝ }
+    ensures { λ r. ⌜ r ≡ (a - 48) * 10 + (b - 48) ⌝ }
+{
+    wide((a - b'0') * 10 + (b - b'0'))
 }
 
 // How many blanks the columns begin with.
@@ -64,33 +101,35 @@ pub(crate) fn blanks(columns: &[u8]) -> usize
     i
 }
 
-// The number of columns whose blanks and mark end at `start`, where no zero stands.
+// The number of columns whose blanks and mark end at `start`, where no zero stands: two digits a turn, then the last.
 fn digits_after(columns: &[u8], start: usize, mark: u8, lowest: i64, highest: i64) -> Number
     requires { ⌜ Ready (now columns) start mark ⌝ }
     requires { ⌜ (getD (now columns) start 0 ≡ 48 → ⊥) ⌝ }
     ensures { λ r. ⌜ r ≡ parse lowest highest (now (columns .entry)) ⌝ }
 {
     let end = columns.len();
-    let mut size: u64 = 0;
-    let mut k = start;
-    while k < end {
-        let b = columns[k];
-        if b < b'0' {
-            return none();
-        }
-        if b > b'9' {
-            return none();
-        }
-        if size > MOST {
-            return none();
-        }
-        size = size * 10 + wide(b - b'0');
-        k += 1;
-    }
-    if size == 0 {
+    if end - start > DIGITS {
         return none();
     }
-    within(lowest, highest, signed(mark, size))
+    let mut size: u64 = 0;
+    let mut k = start;
+    while k + 1 < end {
+        let a = columns[k];
+        let b = columns[k + 1];
+        if !both(is_digit(a), is_digit(b)) {
+            return none();
+        }
+        size = size * 100 + pair(a, b);
+        k += 2;
+    }
+    if k < end {
+        let last = columns[k];
+        if !is_digit(last) {
+            return none();
+        }
+        size = size * 10 + wide(last - b'0');
+    }
+    counted(lowest, highest, mark, size)
 }
 
 // The number of columns whose blanks and mark end at `start`: a zero there has to stand alone, without a minus.

@@ -1,16 +1,16 @@
 -- `reading::read_cells` meets its contract. The loop's invariant: every line of the first c cells has its value; these are
 -- stored, and zeros follow. No assumptions.
 use Prim.Native.Nat.{_+_, _*_, _-_, _≤_}
-use mathlib.Core.Path.{_≡_, sym, ap, _∙_}
-use mathlib.Core.Bool.{Bool, true, _&&_, false≢true}
+use mathlib.Core.Path.{_≡_, sym, _∙_}
+use mathlib.Core.Bool.{true, false≢true}
 use native.Mathlib.Omega.{arith}
 use borrow.Author.Tests.{not-true, not-false}
 use lib.IntN.{pos}
 use Rattle.numeric.specs.Check.{every}
-use Rattle.numeric.proofs.CheckLaws.{every-none, every-more, every-fails, and-false}
+use Rattle.numeric.proofs.CheckLaws.{every-none, every-more, every-fails}
 use Rattle.numeric.proofs.Filling.{FilledThen, then-none, then-run, then-done}
 use Rattle.record.specs.Reading.{valueAt, linesRight, amountsIn, carriesIn}
-use Rattle.record.proofs.ReadCells.{cell-right, amountIn, carryIn, amount-in, amount-beyond, carry-in, carry-beyond}
+use Rattle.record.proofs.ReadCells.{amountIn, carryIn, amount-in, amount-beyond, carry-in, carry-beyond}
 use Rattle.record.proofs.reading.read_cells.Statement.{statement}
 use Rattle.record.proofs.reading.read_cells.Tie as tie
 
@@ -29,34 +29,18 @@ loop-holds c =
     let start = c .before in
     (omega arith, every-none _, rw (start .pre .1 .0) (then-none 144 _ (pos 0)), rw (start .pre .1 .1) (then-none 136 _ 0))
 
-read-amounts-requires : tie.Need-read-amounts-requires Inv-loop μ-loop
-read-amounts-requires c κs = (omega arith, omega arith)
+read-cell-requires : tie.Need-read-cell-requires Inv-loop μ-loop
+read-cell-requires c κs = (omega arith, omega arith)
 
 returns : tie.Need-returns Inv-loop μ-loop
 unfolding linesRight
 returns c =
     let called = c .before in
-    let at-loop = called .before .before .before in
+    let in-loop = called .before .before .before in
+    let at-loop = in-loop .before in
     let start = at-loop .before .before in
-    let text = start .args .text .now in
-    let wrong = sym (called .read-amounts .ensures .0) ∙ not-true _ (c .if1 .taken) in
-    let cell = cell-right text (at-loop .loop .c) ∙ ap (λ (b : Bool). b && every 17 (λ p. valueAt text (at-loop .loop .c) (18 + p) .ok)) wrong in
-    (sym (every-fails (start .args .n) (at-loop .loop .c) _ (called .before .before .loop-test .taken) cell), (λ h. absurd (false≢true h), λ h. absurd (false≢true h)))
-
-read-carries-requires : tie.Need-read-carries-requires Inv-loop μ-loop
-read-carries-requires c κs = (omega arith, omega arith)
-
-returns-2 : tie.Need-returns-2 Inv-loop μ-loop
-unfolding linesRight
-returns-2 c =
-    let called = c .before in
-    let amounts = called .before .before .before in
-    let at-loop = amounts .before .before .before in
-    let start = at-loop .before .before in
-    let text = start .args .text .now in
-    let wrong = sym (called .read-carries .ensures .0) ∙ not-true _ (c .if2 .taken) in
-    let cell = cell-right text (at-loop .loop .c) ∙ ap (λ (b : Bool). every 18 (λ k. valueAt text (at-loop .loop .c) k .ok) && b) wrong ∙ and-false (every 18 (λ k. valueAt text (at-loop .loop .c) k .ok)) in
-    (sym (every-fails (start .args .n) (at-loop .loop .c) _ (amounts .before .before .loop-test .taken) cell), (λ h. absurd (false≢true h), λ h. absurd (false≢true h)))
+    let wrong = sym (called .read-cell .ensures .0) ∙ not-true _ (c .if1 .taken) in
+    (sym (every-fails (start .args .n) (at-loop .loop .c) _ (in-loop .loop-test .taken) wrong), (λ h. absurd (false≢true h), λ h. absurd (false≢true h)))
 
 add-c : tie.Need-add-c Inv-loop μ-loop
 add-c c = omega arith
@@ -67,31 +51,26 @@ loop-less c = omega arith
 loop-again : tie.Need-loop-again Inv-loop μ-loop
 loop-again c =
     let called = c .before in
-    let passed = called .before .before in
-    let amounts = passed .before in
-    let entered = amounts .before .before in
-    let at-loop = entered .before in
+    let in-loop = called .before .before .before in
+    let at-loop = in-loop .before in
     let start = at-loop .before .before in
     let text = start .args .text .now in
     let n = start .args .n in
     let d = at-loop .loop .c in
-    let below = entered .loop-test .taken in
-    let first = not-false _ (passed .if1 .left) in
-    let second = not-false _ (c .if2 .left) in
-    let of-amounts = sym (amounts .read-amounts .ensures .0) ∙ first in
-    let of-carries = sym (called .read-carries .ensures .0) ∙ second in
-    let cell : every 35 (λ k. valueAt text d k .ok) ≡ true = cell-right text d ∙ rw (of-amounts, of-carries) in
+    let below = in-loop .loop-test .taken in
+    let read = called .read-cell .ensures in
+    let right = not-false _ (c .if1 .left) in
     let more-amounts : d * 18 + 18 ≡ (d + 1) * 18 = omega arith in
     let more-carries : d * 17 + 17 ≡ (d + 1) * 17 = omega arith in (
       omega arith,
-      every-more d _ (at-loop .loop .inv .1) cell,
-      rw more-amounts at (then-run 144 (d * 18) 18 (amountIn n text) _ (pos 0) _ _ (at-loop .loop .inv .2) (omega arith) (λ k h. amount-in n text d k below h) (amounts .read-amounts .ensures .1 first)),
-      rw more-carries at (then-run 136 (d * 17) 17 (carryIn n text) _ 0 _ _ (at-loop .loop .inv .3) (omega arith) (λ p h. carry-in n text d p below h) (called .read-carries .ensures .1 second)),
+      every-more d _ (at-loop .loop .inv .1) (sym (read .0) ∙ right),
+      rw more-amounts at (then-run 144 (d * 18) 18 (amountIn n text) _ (pos 0) _ _ (at-loop .loop .inv .2) (omega arith) (λ k h. amount-in n text d k below h) (read .1 .0 right)),
+      rw more-carries at (then-run 136 (d * 17) 17 (carryIn n text) _ 0 _ _ (at-loop .loop .inv .3) (omega arith) (λ p h. carry-in n text d p below h) (read .1 .1 right)),
     )
 
-returns-3 : tie.Need-returns-3 Inv-loop μ-loop
+returns-2 : tie.Need-returns-2 Inv-loop μ-loop
 unfolding linesRight amountsIn carriesIn
-returns-3 c =
+returns-2 c =
     let at-loop = c .before in
     let start = at-loop .before .before in
     let text = start .args .text .now in
@@ -111,11 +90,9 @@ read-cells-spec =
     Inv-loop
     μ-loop
     loop-holds
-    read-amounts-requires
+    read-cell-requires
     returns
-    read-carries-requires
-    returns-2
     add-c
     loop-less
     loop-again
-    returns-3)
+    returns-2)
