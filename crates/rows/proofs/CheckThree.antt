@@ -11,10 +11,9 @@ use lib.Signed.{ltZ}
 use Rattle.numeric.proofs.CheckLaws.{every-eq}
 use Rattle.numeric.proofs.TableLaws.{getD-tab}
 use Rattle.stoichiometry.specs.declared.Set.{Set}
-use Rattle.rows.specs.declared.matrix.Matrix.{Matrix}
-use Rattle.stoichiometry.specs.Rows.{processes, Asked, consumesO2, takesUpNothing, unasked, noProcess, oxygenChange, processesOf, processAt}
+use Rattle.stoichiometry.specs.Rows.{processes, Asked, consumesO2, takesUpNothing, unasked, noProcess, oxygenChange, processesOf, processAt, rowsOf}
 use Rattle.stoichiometry.specs.Sets.{askedMet, rowsWrong}
-use Rattle.rows.specs.Code.{askedTable, matrixOf, askedOf, wrongOf}
+use Rattle.rows.specs.Code.{askedTable, oxygenOf, askedOf, wrongOf}
 use Rattle.stoichiometry.proofs.Balance.{getD-rows}
 
 -- The code's number for what is asked of a process.
@@ -35,8 +34,8 @@ asked-at set p =
 
 -- Whatever is asked of the process at p, it has it in the code's rows where it has it in the set's.
 met-is : (set : Set) (p : ℕ) (a : Asked) → p < processes
-    → askedOf (matrixOf set .entries) (matrixOf set .oxygen) p (askedNumber a) ≡ askedMet set p a
-unfolding askedOf matrixOf
+    → askedOf (rowsOf set) (oxygenOf set) p (askedNumber a) ≡ askedMet set p a
+unfolding askedOf oxygenOf
 met-is set p consumesO2 h =
     ap (λ (e : ℤ). ltZ e (pos 0)) (getD-tab processes (λ k. oxygenChange set (processAt set k)) p (pos 0) h)
 met-is set p takesUpNothing h =
@@ -48,10 +47,10 @@ met-is set p takesUpNothing h =
     )
 met-is set p unasked h = refl
 
-pub wrong-is : (set : Set) → wrongOf (matrixOf set .entries) (matrixOf set .oxygen) ≡ rowsWrong set
+pub wrong-is : (set : Set) → wrongOf (rowsOf set) (oxygenOf set) ≡ rowsWrong set
 unfolding wrongOf rowsWrong
 wrong-is set = ap not (every-eq processes _ _ (λ p h. rw (asked-at set p) (met-is set p (processAt set p .asked) h)))
 
--- The same of a matrix that was made of the set.
-pub wrong-of-made : {m : Matrix} (set : Set) → m ≡ matrixOf set → wrongOf (m .entries) (m .oxygen) ≡ rowsWrong set
-wrong-of-made set e = rw e (wrong-is set)
+-- The same of what was made of the set.
+pub wrong-of-made : {entries es : List ℤ} (set : Set) → entries ≡ rowsOf set → es ≡ oxygenOf set → wrongOf entries es ≡ rowsWrong set
+wrong-of-made set e f = rw (e, f) (wrong-is set)

@@ -1,6 +1,5 @@
 -- The code's arithmetic without a division gives the rows of Rows.antt: one identity for any weight of the substances
--- (`others-weighted`), then entry for entry for the lines of the tables (`coded-entry`, `coded-oxygen`). No assumptions.
-use Prim.Native.Nat.{_+_, _*_, _<_}
+-- (`others-weighted`), and E (`fifteenth-is`). Entry for entry: RowEntries.antt. No assumptions.
 use mathlib.Core.List.{List, [], _∷_}
 use mathlib.Core.Path.{_≡_, refl, ap₂, _∙_}
 use lib.Dec.{lit<}
@@ -14,7 +13,7 @@ use Rattle.stoichiometry.specs.declared.Set.{Set}
 use Rattle.stoichiometry.specs.Substances.{Substance, nh4, no2, no3, hpo4, o2, hco3, hPlus, xp, h2o, n2}
 use Rattle.stoichiometry.specs.Rows.{Change, _by_, weighted, released, closure, Nitrogen, ammonium, nitrate, nitrite, nitrogenAs, Further, none, ammoniumOxidised, nitriteOxidised, adsorbed, furtherBy, Acceptor, oxygen, nitrateToNitrite, nitriteToN2, nitrateToN2, acceptorFor, Process, oxygenChange}
 use Rattle.stoichiometry.specs.Rows as rows
-use Rattle.rows.specs.Code.{fifteenthOf, othersOf}
+use Rattle.rows.specs.Code.{fifteenthOf, othersOf, othersFrom}
 use Rattle.stoichiometry.proofs.Exact.{half-is, three-halves-is, fifteenth, oxygen-change-is, acceptor-is, closureFifteenth, nitrogenFifteenth, furtherFifteenth}
 use Rattle.rows.proofs.Lines.{asNitrate, asNitrite, nh4Oxidised, no2Oxidised, hpo4Adsorbed, by-no3no2, by-no2n2, by-no3n2, kindOf}
 
@@ -194,8 +193,8 @@ pub others-weighted : (w : Substance → ℤ) (set : Set) (q : Process) →
     let k = kindOf q in
     weighted w (closure r) +ℤ weighted w (nitrogenAs (q .nitrogen) (pos 22320 *ℤ r .n)) +ℤ weighted w (furtherBy (q .further))
     +ℤ weighted w (acceptorFor (q .acceptor) (oxygenChange set q))
-    ≡ weighted w (listed (othersOf (releasedOf r) k (fifteenthOf (releasedOf r) k)))
-unfolding othersOf fifteenthOf
+    ≡ weighted w (listed (othersFrom (releasedOf r) k))
+unfolding othersFrom othersOf fifteenthOf
 others-weighted w set q =
     let r = released set (q .changes) in
     rw (nitrogen-weighted w (q .nitrogen) (r .n), further-weighted w (q .further), acceptor-weighted w set q (q .acceptor), fifteenth-is set q)

@@ -17,21 +17,21 @@ use Rattle.numeric.specs.Table.{tab}
 use Rattle.numeric.proofs.Bounds.{abs-neg}
 use Rattle.numeric.proofs.CheckLaws.{and-left, and-right}
 use Rattle.numeric.proofs.Difference.{up, dn, Rep}
-use Rattle.numeric.proofs.Expression.{Ex, v, #, _⊕_, _⊖_, _⊗_, eval, rep}
+use Rattle.numeric.proofs.Expression.{Ex, v, _⊕_, _⊗_, eval, rep}
 use Rattle.numeric.proofs.Fitting.{Bounded, all, _&_, bound, abs-by}
 use Rattle.numeric.proofs.TableLaws.{Each, each-at, AtMost, done, _also_, at-most-at, tab-length, getD-tab}
+use Rattle.stoichiometry.specs.declared.Fractions.{Fractions}
 use Rattle.stoichiometry.specs.declared.Set.{Set}
-use Rattle.stoichiometry.specs.Substances.{Organic}
+use Rattle.stoichiometry.specs.Substances.{Organic, fractionsOf}
 use Rattle.stoichiometry.specs.Parameters.{fractionsWrong, figuresWrong}
 use Rattle.stoichiometry.specs.Rows.{processes, Change, _by_, weighted, Process, noProcess, processesOf}
 use Rattle.stoichiometry.specs.Rows.{processAt, rowEntry, rowsOf}
-use Rattle.rows.specs.Code.{Ranged, fractionTable, changesOf, kindsOf, firstTable, secondTable, kindAt}
-use Rattle.rows.specs.Code.{releasedPart, releasedBy, fifteenthOf, othersOf, othersFrom, rowList}
-use Rattle.rows.proofs.Lines.{index, line}
-use Rattle.rows.proofs.RowEntries.{coded-entry}
+use Rattle.rows.specs.Code.{Ranged, kindsOf, kindAt, releasedBy, fifteenthOf, othersOf, othersFrom, rowList}
+use Rattle.rows.specs.Code.{changeAt, lineAt, codedReleased}
+use Rattle.rows.proofs.RowEntries.{codedPart, part-is, coded-entry}
 use Rattle.rows.proofs.Ranges.{ranged, changes-small, kind-small}
-use Rattle.rows.proofs.RowArithmetic.{_·_, atoms, fifteenth, carbon, hydrogen, nitrogen, phosphorus}
-use Rattle.rows.proofs.RowArithmetic.{nitrate, nitrite, nh4no2, no2no3, adsorbed, no3no2, no2n2, no3n2}
+use Rattle.rows.proofs.RowArithmetic.{atoms, adsorbed, fifteenth, bicarbonate}
+use Rattle.rows.proofs.RowArithmetic.{nh4Change, no2Change, no3Change, hpo4Change, o2Change, hChange, h2oChange, n2Change}
 
 -- What organic changes make and what they take up, µg.
 abbrev made : List (Change Organic) → ℕ
@@ -80,15 +80,6 @@ each-within : (set : Set) → Ranged set → Each (λ p. Within (mostAt p)) 0 (p
 unfolding processesOf
 each-within set g = omega (arith, death-made (set .yields .death) (set .inert .algae) (g .death) (g .algae))
 
--- What the code has of process p: what it releases, the change of an organic, the numbers of its kind.
-abbrev fromTables : {A : Type 0} → (List ℕ → List ℤ → ℕ → ℕ → ℕ → A) → Set → ℕ → A
-fromTables f set p =
-    f (fractionTable (set .fractions)) (changesOf (set .yields) (set .inert)) p
-    (getD firstTable p 0) (getD secondTable p 0)
-
-abbrev changeAt : Set → ℕ → ℕ → ℤ
-changeAt set p o = getD (changesOf (set .yields) (set .inert)) (p * 8 + o) (pos 0)
-
 abbrev numbersAt : Set → ℕ → List ℤ
 numbersAt set p =
     let k = kindAt (kindsOf set) p in
@@ -97,28 +88,12 @@ numbersAt set p =
 -- The atoms of RowArithmetic.antt and, as 13 to 20, the changes of the organics; a row's entries over them; bounds of
 -- the atoms, with r for the elements and ks for the numbers of the kind.
 abbrev atomsAt : Set → ℕ → List ℤ
-atomsAt set p =
-    let x = changeAt set p in
-    atoms (fromTables releasedBy set p) (kindAt (kindsOf set) p) (x 0 ∷ x 1 ∷ x 2 ∷ x 3 ∷ x 4 ∷ x 5 ∷ x 6 ∷ x 7 ∷ [])
+atomsAt set p = atoms (codedReleased set p) (kindAt (kindsOf set) p) (lineAt set p)
 
 abbrev rowE : List Ex
 rowE =
-    let a = 22320 · nitrogen in
-    let a3 = a ⊗ nitrate in
-    let a2 = a ⊗ nitrite in
-    let m7 = 22320 · nh4no2 in
-    let m9 = 22320 · no2no3 in
-    let moved = a3 ⊕ a2 ⊕ m7 in
-    let e4 = fifteenth ⊗ no3no2 in
-    let e5 = fifteenth ⊗ no2n2 in
-    let e6 = fifteenth ⊗ no3n2 in
-    let c = 26040 · carbon in
-    v 13 ∷ v 14 ∷ (a ⊖ moved) ∷ (a2 ⊕ m7 ⊖ m9 ⊖ 30 · e4 ⊕ 20 · e5) ∷ (a3 ⊕ m9 ⊕ 30 · e4 ⊕ 12 · e6)
-    ∷ (10080 · phosphorus ⊖ adsorbed) ∷ (15 · (fifteenth ⊖ e4 ⊖ e5 ⊖ e6)) ∷ c
-    ∷ (c ⊕ 20160 · phosphorus ⊖ a ⊕ 2 · moved ⊕ 20 · e5 ⊕ 12 · e6)
-    ∷ v 15 ∷ v 16 ∷ v 17 ∷ v 18 ∷ v 19 ∷ v 20 ∷ adsorbed
-    ∷ (156240 · hydrogen ⊖ c ⊖ 33480 · nitrogen ⊖ 15120 · phosphorus ⊕ moved ⊖ 10 · e5 ⊖ 6 · e6)
-    ∷ (# (pos 0) ⊖ 10 · e5 ⊖ 6 · e6) ∷ []
+    v 13 ∷ v 14 ∷ nh4Change ∷ no2Change fifteenth ∷ no3Change fifteenth ∷ hpo4Change ∷ o2Change fifteenth ∷ bicarbonate
+    ∷ hChange fifteenth ∷ v 15 ∷ v 16 ∷ v 17 ∷ v 18 ∷ v 19 ∷ v 20 ∷ adsorbed ∷ h2oChange fifteenth ∷ n2Change fifteenth ∷ []
 
 abbrev limits : ℕ → List ℕ → List ℕ
 limits r ks =
@@ -151,25 +126,25 @@ getD-bound size b l d e f k = at-place (decLt k (length l))
     at-place (no h) = let past : length l ≤ k = omega arith in rw (List·getD-eq-default l d past) e
 
 module _ (set : Set) (g : Ranged set) (p : ℕ) (h : p < processes) where
-  part-bound : (b : ℕ) → Within b (processAt set p) → (e : ℕ) → natAbs (fromTables releasedPart set p e) ≤ b * 1000
-  unfolding releasedPart
-  part-bound b w e =
-      let fraction : ℕ → ℕ = λ o. getD (fractionTable (set .fractions)) (o * 5 + e) 0 in
-      let most = getD-bound (λ n. n) 1000 (fractionTable (set .fractions)) 0 (lit≤ tt) (g .fractions .most) in
-      let z = weighted (λ x. pos (fraction (index x))) (processAt set p .changes) in
-      let parts = weighted-parts (λ x. fraction (index x)) (λ x. most (index x * 5 + e)) (processAt set p .changes) in
-      rw (abs-neg, ← line set g p h .three (λ o. pos (fraction o))) (omega (arith, abs-parts z))
+  part-bound : (b : ℕ) → Within b (processAt set p) → (fraction : Fractions → ℕ)
+      → ((x : Organic) → fraction (fractionsOf set x) ≤ 1000) → natAbs (codedPart set p fraction) ≤ b * 1000
+  part-bound b w fraction most =
+      let changes = processAt set p .changes in
+      let parts = weighted-parts (λ x. fraction (fractionsOf set x)) most changes in
+      rw (part-is set g p h fraction, abs-neg)
+      (omega (arith, abs-parts (weighted (λ x. pos (fraction (fractionsOf set x))) changes)))
 
   by-limits : (b : ℕ) {ks : List ℕ} → Within b (processAt set p) → Bounded (numbersAt set p) ks
       → Under 2500000000000 (limits (b * 1000) ks) rowE → (s : ℕ) → natAbs (rowEntry set p s) ≤ 2500000000000
   unfolding rowList othersFrom othersOf fifteenthOf releasedBy
   by-limits b {ks} w k t s =
       let r = part-bound b w in
-      let changes = changesOf (set .yields) (set .inert) in
-      let small = getD-bound natAbs 10000 changes (pos 0) (lit≤ tt) (unfold changesOf in changes-small set g .small) in
-      let x : (o : ℕ) → natAbs (changeAt set p o) ≤ 10000 = λ o. small (p * 8 + o) in
+      let f = g .fractions in
+      let x : (o : ℕ) → natAbs (changeAt set p o) ≤ 10000 = λ o. changes-small set g (p * 8 + o) in
       let known : Bounded (atomsAt set p) (limits (b * 1000) ks) =
-      r 0 & r 1 & r 2 & r 3 & r 4 & bounded-append k (x 0 & x 1 & x 2 & x 3 & x 4 & x 5 & x 6 & x 7 & all) in
+      r (λ f. f .carbon) (λ x. f x .carbon) & r (λ f. f .hydrogen) (λ x. f x .hydrogen) & r (λ f. f .oxygen) (λ x. f x .oxygen)
+      & r (λ f. f .nitrogen) (λ x. f x .nitrogen) & r (λ f. f .phosphorus) (λ x. f x .phosphorus)
+      & bounded-append k (x 0 & x 1 & x 2 & x 3 & x 4 & x 5 & x 6 & x 7 & all) in
       rw (← coded-entry set g p h s) (at-most-at (all-under known 2500000000000 rowE t) (pos 0) (lit≤ tt) s)
 
   by-place : Within (mostAt p) (processAt set p) → Dec (p ≡ 13) → (s : ℕ) → natAbs (rowEntry set p s) ≤ 2500000000000

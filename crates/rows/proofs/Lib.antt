@@ -3,6 +3,6 @@ pub mod Lines
 pub mod Coded
 pub mod RowEntries
 pub mod RowArithmetic
-pub mod MatrixLoop
 pub mod CheckThree
 pub mod EntryBounds
+pub mod Storing

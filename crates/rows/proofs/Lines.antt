@@ -1,12 +1,12 @@
--- Each process of Rows.antt against its line in the code's tables (specs/Code.antt): its organic changes, for any weight of
--- an organic, and what it does besides its closure. The rows made of these lines: Coded.antt. No assumptions.
-use Prim.Native.Nat.{ℕ, _+_, _*_, _-_, _<_, _≤_}
+-- Each process of Rows.antt against its line in the tables of specs/Code.antt: its organic changes, for any weight of an
+-- organic, and what it does besides its closure. The rows made of these lines: Coded.antt. No assumptions.
+use Prim.Native.Nat.{ℕ, _*_, _-_, _<_, _≤_}
 use mathlib.Core.Bool.{cond}
 use mathlib.Core.List.{List, [], _∷_}
 use mathlib.Core.Path.{_≡_, refl}
 use native.Mathlib.Omega.{arith}
 use native.Mathlib.Nat.{mul-le-mul, zero-add}
-use lib.Dec.{eqb, lit<}
+use lib.Dec.{eqb}
 use lib.ListN.{getD}
 use lib.IntN.{ℤ, pos, negℤ, _+ℤ_, _-ℤ_, _*ℤ_}
 use Rattle.numeric.proofs.Expression.{Ex, v, #, _⊕_, _⊖_, _⊗_, eval, equal}
@@ -15,8 +15,8 @@ use Rattle.numeric.proofs.TableLaws.{Each, each-at}
 use Rattle.rows.specs.declared.row.Kind.{Kind}
 use Rattle.stoichiometry.specs.declared.Set.{Set}
 use Rattle.stoichiometry.specs.Substances.{Organic, ss, si, xh, xn1, xn2, xalg, xs, xi}
-use Rattle.stoichiometry.specs.Rows.{processes, _by_, weighted, Nitrogen, ammonium, nitrate, nitrite, Further, none, ammoniumOxidised, nitriteOxidised, adsorbed, Acceptor, oxygen, nitrateToNitrite, nitriteToN2, nitrateToN2, Process, noProcess, processesOf, processAt}
-use Rattle.rows.specs.Code.{Ranged, changesOf, kindTable, kindsOf, firstTable, secondTable, kindAt}
+use Rattle.stoichiometry.specs.Rows.{processes, weighted, Nitrogen, ammonium, nitrate, nitrite, Further, none, ammoniumOxidised, nitriteOxidised, adsorbed, Acceptor, oxygen, nitrateToNitrite, nitriteToN2, nitrateToN2, Process, noProcess, processesOf, processAt}
+use Rattle.rows.specs.Code.{Ranged, kind, changesOf, kindTable, kindsOf, firstTable, secondTable, kindAt, changeAt}
 
 -- The number of an organic, 0 to 7, in the code's lines.
 abbrev pub index : Organic → ℕ
@@ -28,6 +28,17 @@ index xn2 = 4
 index xalg = 5
 index xs = 6
 index xi = 7
+
+-- What holds of each organic.
+pub by-organic : (P : Organic → Type 0) → P ss → P si → P xh → P xn1 → P xn2 → P xalg → P xs → P xi → (x : Organic) → P x
+by-organic P a b c d e f g h ss = a
+by-organic P a b c d e f g h si = b
+by-organic P a b c d e f g h xh = c
+by-organic P a b c d e f g h xn1 = d
+by-organic P a b c d e f g h xn2 = e
+by-organic P a b c d e f g h xalg = f
+by-organic P a b c d e f g h xs = g
+by-organic P a b c d e f g h xi = h
 
 -- What a process of the nitrogen's form, of what it turns over besides and of the acceptor is to the code.
 abbrev pub asNitrate : Nitrogen → ℤ
@@ -78,30 +89,22 @@ by-no3n2 nitrateToN2 = pos 1
 
 abbrev pub kindOf : Process → Kind
 kindOf q =
-    record {
-      nitrate = asNitrate (q .nitrogen);
-      nitrite = asNitrite (q .nitrogen);
-      nh4no2 = nh4Oxidised (q .further);
-      no2no3 = no2Oxidised (q .further);
-      adsorbed = hpo4Adsorbed (q .further);
-      no3no2 = by-no3no2 (q .acceptor);
-      no2n2 = by-no2n2 (q .acceptor);
-      no3n2 = by-no3n2 (q .acceptor);
-    }
+    kind (asNitrate (q .nitrogen)) (asNitrite (q .nitrogen)) (nh4Oxidised (q .further)) (no2Oxidised (q .further))
+    (hpo4Adsorbed (q .further)) (by-no3no2 (q .acceptor)) (by-no2n2 (q .acceptor)) (by-no3n2 (q .acceptor))
 
 -- The organic changes of a process against its line in the table of changes, for any weight of an organic: all eight, and
 -- the three that the code reads; and its kind.
 pub record Line (set : Set) (p : ℕ) (q : Process) : Type 0 where
   pub all-eight : (w : ℕ → ℤ) →
-      let d : ℕ → ℤ = λ o. getD (changesOf (set .yields) (set .inert)) (p * 8 + o) (pos 0) in
+      let d = changeAt set p in
       weighted (λ x. w (index x)) (q .changes)
       ≡ d 0 *ℤ w 0 +ℤ d 1 *ℤ w 1 +ℤ d 2 *ℤ w 2 +ℤ d 3 *ℤ w 3 +ℤ d 4 *ℤ w 4 +ℤ d 5 *ℤ w 5 +ℤ d 6 *ℤ w 6 +ℤ d 7 *ℤ w 7
   pub three : (w : ℕ → ℤ) →
-      let d : ℕ → ℤ = λ o. getD (changesOf (set .yields) (set .inert)) (p * 8 + o) (pos 0) in
+      let d = changeAt set p in
       let i = getD firstTable p 0 in
       let j = getD secondTable p 0 in
       weighted (λ x. w (index x)) (q .changes) ≡ d i *ℤ w i +ℤ d j *ℤ w j +ℤ d 7 *ℤ w 7
-  pub kind : kindAt (kindsOf set) p ≡ kindOf q
+  pub kind-is : kindAt (kindsOf set) p ≡ kindOf q
 
 -- Changes as expressions: the weight of organic o is the atom o, the amounts stand after the eight weights.
 infix 68 _for_
@@ -171,41 +174,41 @@ lines set g =
     let f = pos (set .inert .bacteria) ∷ [] in
     let a = pos (set .inert .algae) ∷ [] in
     let grown = # (pos 100) for 5 ∷ [] in
-    let k7 = excess-is (set .yields .xn1) (set .fractions .xn1 .nitrogen) (g .xn1) (g .fractions .most 18 (lit< tt)) in
-    let k9 = excess-is (set .yields .xn2) (set .fractions .xn2 .nitrogen) (g .xn2) (g .fractions .most 23 (lit< tt)) in (
-      record { all-eight = eight-hold onSsE y1 tt; three = three-hold onSsE 2 0 y1 tt; kind = refl },
+    let k7 = excess-is (set .yields .xn1) (set .fractions .xn1 .nitrogen) (g .xn1) (g .fractions xn1 .nitrogen) in
+    let k9 = excess-is (set .yields .xn2) (set .fractions .xn2 .nitrogen) (g .xn2) (g .fractions xn2 .nitrogen) in (
+      record { all-eight = eight-hold onSsE y1 tt; three = three-hold onSsE 2 0 y1 tt; kind-is = refl },
       (
-        record { all-eight = eight-hold onSsE y1 tt; three = three-hold onSsE 2 0 y1 tt; kind = refl },
+        record { all-eight = eight-hold onSsE y1 tt; three = three-hold onSsE 2 0 y1 tt; kind-is = refl },
         (
-          record { all-eight = eight-hold (lossE 2) f tt; three = three-hold (lossE 2) 2 0 f tt; kind = refl },
+          record { all-eight = eight-hold (lossE 2) f tt; three = three-hold (lossE 2) 2 0 f tt; kind-is = refl },
           (
-            record { all-eight = eight-hold onSsE y4 tt; three = three-hold onSsE 2 0 y4 tt; kind = refl },
+            record { all-eight = eight-hold onSsE y4 tt; three = three-hold onSsE 2 0 y4 tt; kind-is = refl },
             (
-              record { all-eight = eight-hold onSsE y5 tt; three = three-hold onSsE 2 0 y5 tt; kind = refl },
+              record { all-eight = eight-hold onSsE y5 tt; three = three-hold onSsE 2 0 y5 tt; kind-is = refl },
               (
-                record { all-eight = eight-hold (lossE 2) f tt; three = three-hold (lossE 2) 2 0 f tt; kind = refl },
+                record { all-eight = eight-hold (lossE 2) f tt; three = three-hold (lossE 2) 2 0 f tt; kind-is = refl },
                 (
-                  record { all-eight = eight-hold (v 8 for 3 ∷ []) y7 tt; three = three-hold (v 8 for 3 ∷ []) 3 0 y7 tt; kind = λ i. kindAt (kindTable (k7 i) (pos 0)) 6 },
+                  record { all-eight = eight-hold (v 8 for 3 ∷ []) y7 tt; three = three-hold (v 8 for 3 ∷ []) 3 0 y7 tt; kind-is = λ i. kindAt (kindTable (k7 i) (pos 0)) 6 },
                   (
-                    record { all-eight = eight-hold (lossE 3) f tt; three = three-hold (lossE 3) 3 0 f tt; kind = refl },
+                    record { all-eight = eight-hold (lossE 3) f tt; three = three-hold (lossE 3) 3 0 f tt; kind-is = refl },
                     (
-                      record { all-eight = eight-hold (v 8 for 4 ∷ []) y9 tt; three = three-hold (v 8 for 4 ∷ []) 4 0 y9 tt; kind = λ i. kindAt (kindTable (pos 0) (k9 i)) 8 },
+                      record { all-eight = eight-hold (v 8 for 4 ∷ []) y9 tt; three = three-hold (v 8 for 4 ∷ []) 4 0 y9 tt; kind-is = λ i. kindAt (kindTable (pos 0) (k9 i)) 8 },
                       (
-                        record { all-eight = eight-hold (lossE 4) f tt; three = three-hold (lossE 4) 4 0 f tt; kind = refl },
+                        record { all-eight = eight-hold (lossE 4) f tt; three = three-hold (lossE 4) 4 0 f tt; kind-is = refl },
                         (
-                          record { all-eight = eight-hold grown [] tt; three = three-hold grown 5 0 [] tt; kind = refl },
+                          record { all-eight = eight-hold grown [] tt; three = three-hold grown 5 0 [] tt; kind-is = refl },
                           (
-                            record { all-eight = eight-hold grown [] tt; three = three-hold grown 5 0 [] tt; kind = refl },
+                            record { all-eight = eight-hold grown [] tt; three = three-hold grown 5 0 [] tt; kind-is = refl },
                             (
-                              record { all-eight = eight-hold (lossE 5) a tt; three = three-hold (lossE 5) 5 0 a tt; kind = refl },
+                              record { all-eight = eight-hold (lossE 5) a tt; three = three-hold (lossE 5) 5 0 a tt; kind-is = refl },
                               (
-                                record { all-eight = eight-hold deathE y14 tt; three = three-hold deathE 5 6 y14 tt; kind = refl },
+                                record { all-eight = eight-hold deathE y14 tt; three = three-hold deathE 5 6 y14 tt; kind-is = refl },
                                 (
-                                  record { all-eight = eight-hold hydrolysisE y15 tt; three = three-hold hydrolysisE 6 0 y15 tt; kind = refl },
+                                  record { all-eight = eight-hold hydrolysisE y15 tt; three = three-hold hydrolysisE 6 0 y15 tt; kind-is = refl },
                                   (
-                                    record { all-eight = eight-hold [] [] tt; three = three-hold [] 1 0 [] tt; kind = refl },
+                                    record { all-eight = eight-hold [] [] tt; three = three-hold [] 1 0 [] tt; kind-is = refl },
                                     (
-                                      record { all-eight = eight-hold [] [] tt; three = three-hold [] 1 0 [] tt; kind = refl },
+                                      record { all-eight = eight-hold [] [] tt; three = three-hold [] 1 0 [] tt; kind-is = refl },
                                       tt,
                                     ),
                                   ),

@@ -1,8 +1,8 @@
 -- What checks 1 and 2 give to the arithmetic of rows: a set that passes them is in range (`ranged`), and of a set in range
--- the code's tables hold small numbers (`changes-small`, `kind-small`). No assumptions.
+-- the lines of specs/Code.antt hold small numbers (`changes-small`, `kind-small`). No assumptions.
 use Prim.Native.Nat.{ℕ, _+_, _*_, _-_, _≤_, _<_}
 use mathlib.Core.Bool.{true, false, _&&_}
-use mathlib.Core.List.{List, [], _∷_, _++_}
+use mathlib.Core.List.{List, _++_}
 use mathlib.Core.Path.{_≡_}
 use native.Mathlib.Omega.{arith}
 use native.Mathlib.Nat.{mul-le-mul, sub-le}
@@ -15,48 +15,30 @@ use Rattle.numeric.proofs.CheckLaws.{and-left, and-right, allOf-at}
 use Rattle.numeric.proofs.TableLaws.{Each, each-at, AtMost, done, _also_, at-most-at, at-most-run}
 use Rattle.stoichiometry.specs.declared.Fractions.{Fractions}
 use Rattle.stoichiometry.specs.declared.Set.{Set}
-use Rattle.stoichiometry.specs.Substances.{organics, ss, fractionsOf}
+use Rattle.stoichiometry.specs.Substances.{Organic, organics, xn1, xn2, xi, fractionsOf}
 use Rattle.stoichiometry.specs.Parameters.{addsUp, fractionsWrong, inRange, yieldList, inertList, yieldsFit, constantsFit, figuresWrong}
 use Rattle.stoichiometry.specs.Rows.{processes, Nitrogen, ammonium, nitrate, nitrite, Acceptor, oxygen, nitrateToNitrite, nitriteToN2, nitrateToN2, Process, noProcess, excess, processesOf, processAt}
-use Rattle.rows.specs.Code.{Ranged, Thousandths, SmallChanges, InKind, fractionTable, changesOf, kindsOf, kindAt}
-use Rattle.rows.proofs.Lines.{asNitrate, asNitrite, nh4Oxidised, no2Oxidised, hpo4Adsorbed, by-no3no2, by-no2n2, by-no3n2, line, excess-is}
+use Rattle.rows.specs.Code.{Ranged, Thousandths, InKind, changesOf, kindsOf, kindAt, fractionsAt}
+use Rattle.rows.proofs.Lines.{asNitrate, asNitrite, nh4Oxidised, no2Oxidised, hpo4Adsorbed, by-no3no2, by-no2n2, by-no3n2, line, excess-is, by-organic}
 
 in-range-le : (low high x : ℕ) → inRange low high x ≡ true → x ≤ high
 unfolding inRange
 in-range-le low high x e = leb-true x high (and-right (leb low x) (leb x high) e)
 
 -- The five fractions of an organic that add to 1,000 are at most 1,000.
-five : (f : Fractions) {l : List ℕ} → addsUp f ≡ true → AtMost (λ n. n) 1000 l
-    → AtMost (λ n. n) 1000 (f .carbon ∷ f .hydrogen ∷ f .oxygen ∷ f .nitrogen ∷ f .phosphorus ∷ l)
+adds-up-thousandths : (f : Fractions) → addsUp f ≡ true → Thousandths f
 unfolding addsUp
-five f e r =
+adds-up-thousandths f e =
     let total : f .carbon + f .hydrogen + f .oxygen + f .nitrogen + f .phosphorus ≡ 1000 = eqb-true _ 1000 e in
-    let c : f .carbon ≤ 1000 = omega arith in
-    let h : f .hydrogen ≤ 1000 = omega arith in
-    let o : f .oxygen ≤ 1000 = omega arith in
-    let n : f .nitrogen ≤ 1000 = omega arith in
-    let p : f .phosphorus ≤ 1000 = omega arith in
-    c also h also o also n also p also r
+    record { carbon = omega arith; hydrogen = omega arith; oxygen = omega arith; nitrogen = omega arith; phosphorus = omega arith }
 
-thousandths : (set : Set) → fractionsWrong set ≡ false → Thousandths (fractionTable (set .fractions))
+thousandths : (set : Set) → fractionsWrong set ≡ false → (x : Organic) → Thousandths (fractionsOf set x)
 unfolding fractionsWrong
 thousandths set e =
-    let every : (i : ℕ) → i < 8 → addsUp (fractionsOf set (getD organics i ss)) ≡ true =
-    λ i h. allOf-at (λ o. addsUp (fractionsOf set o)) organics i ss (not-false _ e) h in
-    record {
-      most =
-          λ k h.
-          at-most-at
-          (five (set .fractions .ss) (every 0 (lit< tt))
-          (five (set .fractions .si) (every 1 (lit< tt))
-          (five (set .fractions .xh) (every 2 (lit< tt))
-          (five (set .fractions .xn1) (every 3 (lit< tt))
-          (five (set .fractions .xn2) (every 4 (lit< tt))
-          (five (set .fractions .xalg) (every 5 (lit< tt))
-          (five (set .fractions .xs) (every 6 (lit< tt))
-          (five (set .fractions .xi) (every 7 (lit< tt)) done))))))))
-          0 (lit≤ tt) k;
-    }
+    let every : (i : ℕ) → i < 8 → Thousandths (fractionsAt set i) =
+    λ i h. adds-up-thousandths _ (allOf-at (λ o. addsUp (fractionsOf set o)) organics i xi (not-false _ e) h) in
+    by-organic _ (every 0 (lit< tt)) (every 1 (lit< tt)) (every 2 (lit< tt)) (every 3 (lit< tt)) (every 4 (lit< tt))
+    (every 5 (lit< tt)) (every 6 (lit< tt)) (every 7 (lit< tt))
 
 -- A set that passes checks 1 and 2 is in range.
 pub ranged : (set : Set) → fractionsWrong set ≡ false → figuresWrong set ≡ false → Ranged set
@@ -87,7 +69,7 @@ zeros : (n : ℕ) {l : List ℤ} → AtMost natAbs 10000 l → AtMost natAbs 100
 zeros n r = at-most-run n (pos 0) (lit≤ tt) r
 
 -- No organic change of a set in range exceeds 10,000 µg.
-pub changes-small : (set : Set) → Ranged set → SmallChanges (changesOf (set .yields) (set .inert))
+pub changes-small : (set : Set) → Ranged set → (k : ℕ) → natAbs (getD (changesOf (set .yields) (set .inert)) k (pos 0)) ≤ 10000
 unfolding changesOf
 changes-small set g =
     let hundred : 100 ≤ 10000 = lit≤ tt in
@@ -102,26 +84,23 @@ changes-small set g =
     let made : set .yields .death * (100 - set .inert .algae) ≤ 10000 = mul-le-mul (g .death) (sub-le 100 (set .inert .algae)) in
     let inert : set .yields .death * set .inert .algae ≤ 10000 = mul-le-mul (g .death) (g .algae) in
     let most : 10000 ≤ 10000 = lit≤ tt in
-    record {
-      small =
-          λ k h.
-          at-most-at
-          (hundred also zeros 1 (y1 also zeros 5 (
-          hundred also zeros 1 (y1 also zeros 7 (
-          hundred also zeros 4 (f also hundred also zeros 1 (y4 also zeros 5 (
-          hundred also zeros 1 (y5 also zeros 7 (
-          hundred also zeros 4 (f also zeros 3 (
-          y7 also zeros 7 (
-          hundred also zeros 3 (f also zeros 4 (
-          y9 also zeros 7 (
-          hundred also zeros 2 (f also zeros 5 (
-          hundred also zeros 7 (
-          hundred also zeros 7 (
-          hundred also zeros 1 (a also zeros 5 (
-          most also made also inert also y15 also zeros 5 (
-          hundred also zeros 17 (done))))))))))))))))))))))))
-          (pos 0) (lit≤ tt) k;
-    }
+    λ k.
+    at-most-at
+    (hundred also zeros 1 (y1 also zeros 5 (
+    hundred also zeros 1 (y1 also zeros 7 (
+    hundred also zeros 4 (f also hundred also zeros 1 (y4 also zeros 5 (
+    hundred also zeros 1 (y5 also zeros 7 (
+    hundred also zeros 4 (f also zeros 3 (
+    y7 also zeros 7 (
+    hundred also zeros 3 (f also zeros 4 (
+    y9 also zeros 7 (
+    hundred also zeros 2 (f also zeros 5 (
+    hundred also zeros 7 (
+    hundred also zeros 7 (
+    hundred also zeros 1 (a also zeros 5 (
+    most also made also inert also y15 also zeros 5 (
+    hundred also zeros 17 (done))))))))))))))))))))))))
+    (pos 0) (lit≤ tt) k
 
 -- What a process turns over besides is at most 100,000 × 22,320 grains of nitrogen or 1,008,000,000 of phosphate.
 abbrev FurtherSmall : ℕ → Process → Type 0
@@ -137,8 +116,8 @@ unfolding processesOf
 further-small set g =
     let s : FurtherSmall 0 noProcess = (lit≤ tt, lit≤ tt, lit≤ tt) in
     let x : 1008000000 ≤ 1008000000 = lit≤ tt in
-    let k7 = excess-small (set .yields .xn1) (set .fractions .xn1) (g .xn1) (g .fractions .most 18 (lit< tt)) in
-    let k9 = excess-small (set .yields .xn2) (set .fractions .xn2) (g .xn2) (g .fractions .most 23 (lit< tt)) in (
+    let k7 = excess-small (set .yields .xn1) (set .fractions .xn1) (g .xn1) (g .fractions xn1 .nitrogen) in
+    let k9 = excess-small (set .yields .xn2) (set .fractions .xn2) (g .xn2) (g .fractions xn2 .nitrogen) in (
       s,
       (
         s,
@@ -184,7 +163,7 @@ unfolding processAt
 kind-small set g p h =
     let q = processAt set p in
     let f = each-at FurtherSmall 0 (processesOf set) p noProcess (further-small set g) (unfold processesOf in h) in
-    rw (line set g p h .kind)
+    rw (line set g p h .kind-is)
     (record {
       nitrate = form-small (q .nitrogen) .0;
       nitrite = form-small (q .nitrogen) .1;

@@ -1,84 +1,47 @@
--- The numbers that a row's arithmetic computes with, and their bounds: the shares of
--- the organics and what they release; the atoms of the expressions in `fifteenth` and `other_changes`, by name; E / 15.
--- The definitions: specs/Code.antt. Signed expressions in the machine: numeric's Machine.antt. No assumptions.
-use Prim.Native.Nat.{ℕ, _≤_, _<_, _*_, _+_, _^_}
-use native.Mathlib.Omega.{arith}
-use native.Mathlib.Nat.{add-zero}
-use mathlib.Core.Path.{_≡_, refl}
+-- The numbers that a row's arithmetic computes with, and their bounds: what three organic changes release; the atoms of
+-- the expressions in `fifteenth` and `other_changes`, by name; E / 15; the other changes. The definitions:
+-- specs/Code.antt. Signed expressions in the machine: numeric's Machine.antt. No assumptions.
+use Prim.Native.Nat.{ℕ, _≤_}
+use mathlib.Core.Path.{_≡_}
 use mathlib.Core.List.{List, [], _∷_}
-use lib.Signed.{mag}
-use lib.ListN.{getD}
-use lib.IntN.{ℤ, pos, natAbs, _*ℤ_}
-use mir.Facts.{toZ-ofZ}
-use Rattle.numeric.proofs.Bounds.{abs-mul-le, fits-abs}
+use lib.IntN.{ℤ, pos, natAbs}
 use Rattle.numeric.proofs.Expression.{Ex, v, #, _⊕_, _⊖_, _⊗_, ⊝}
 use Rattle.numeric.proofs.Fitting.{Bounded, all, _&_, abs-under}
-use Rattle.numeric.proofs.Machine.{kept, kept-is}
+use Rattle.stoichiometry.specs.declared.Fractions.{Fractions}
 use Rattle.rows.specs.declared.row.Released.{Released}
 use Rattle.rows.specs.declared.row.Kind.{Kind}
 use Rattle.rows.specs.declared.row.Others.{Others}
-use Rattle.rows.specs.Code.{SmallChanges, Thousandths, InReleased, InKind}
-use Rattle.rows.specs.Code.{shareOf, releasedPart, releasedBy, fifteenthOf, othersOf}
+use Rattle.rows.specs.Code.{Thousandths, InReleased, InKind, releasedPart, releasedBy, fifteenthOf, othersOf, othersFrom}
 
 infixl 7 _·_
 -- A multiple of an expression.
 abbrev pub _·_ : ℕ → Ex → Ex
 n · a = # (pos n) ⊗ a
 
--- The first of a line of eight, kept as it was read.
-pub first-is :
-    (xs : List ℤ) (b : ℕ) → mag (getD xs b (pos 0)) < 2 ^ 63 → kept (getD xs b (pos 0)) ≡ getD xs (b + 0) (pos 0)
-first-is xs b h = rw add-zero (kept-is (getD xs b (pos 0)) h)
+-- Three organic changes, each with a fraction, and what they release of its element.
+pub three-bounded : (x y z : ℤ) (a b c : ℕ) → natAbs x ≤ 10000 → natAbs y ≤ 10000 → natAbs z ≤ 10000
+    → a ≤ 1000 → b ≤ 1000 → c ≤ 1000
+    → Bounded (x ∷ pos a ∷ y ∷ pos b ∷ z ∷ pos c ∷ []) (10000 ∷ 1000 ∷ 10000 ∷ 1000 ∷ 10000 ∷ 1000 ∷ [])
+three-bounded x y z a b c hx hy hz ha hb hc = hx & ha & hy & hb & hz & hc & all
 
--- The organics i, j and XI of process p, and an element e.
-module _
-    {fractions : List ℕ} {changes : List ℤ} (small : SmallChanges changes) (most : Thousandths fractions)
-    (p : ℕ) (at : p < 17) where
-  module _ (i e : ℕ) (hi : i < 8) (he : e < 5) where
-    change-small : natAbs (getD changes (p * 8 + i) (pos 0)) ≤ 10000
-    change-small = small .small (p * 8 + i) (omega arith)
+abbrev pub threeReleased : Ex
+threeReleased = ⊝ (v 0 ⊗ v 1 ⊕ v 2 ⊗ v 3 ⊕ v 4 ⊗ v 5)
 
-    fraction-most : getD fractions (i * 5 + e) 0 ≤ 1000
-    fraction-most = most .most (i * 5 + e) (omega arith)
+module _ (x y z : ℤ) (hx : natAbs x ≤ 10000) (hy : natAbs y ≤ 10000) (hz : natAbs z ≤ 10000) where
+  part-in : (a b c : ℕ) → a ≤ 1000 → b ≤ 1000 → c ≤ 1000 → natAbs (releasedPart x a y b z c) ≤ 30000000
+  unfolding releasedPart
+  part-in a b c ha hb hc = abs-under (three-bounded x y z a b c hx hy hz ha hb hc) threeReleased 30000000 tt
 
-    change-kept : kept (getD changes (p * 8 + i) (pos 0)) ≡ getD changes (p * 8 + i) (pos 0)
-    change-kept = toZ-ofZ (fits-abs (getD changes (p * 8 + i) (pos 0)) (omega (arith, change-small)))
-
-    -- What `share` requires of its arguments.
-    pub share-args : (natAbs (kept (getD changes (p * 8 + i) (pos 0))) ≤ 10000) × (getD fractions (i * 5 + e) 0 ≤ 1000)
-    share-args = (rw change-kept change-small, fraction-most)
-
-    -- What `share` ensures of its result.
-    pub share-is :
-        {x : ℤ} → x ≡ kept (getD changes (p * 8 + i) (pos 0)) *ℤ pos (getD fractions (i * 5 + e) 0) →
-        x ≡ shareOf fractions changes p i e
-    share-is h = rw change-kept at h
-
-    share-bound : natAbs (shareOf fractions changes p i e) ≤ 10000000
-    share-bound =
-        abs-mul-le (getD changes (p * 8 + i) (pos 0)) (pos (getD fractions (i * 5 + e) 0)) change-small fraction-most
-
-  module _ (i j : ℕ) (hi : i < 8) (hj : j < 8) where
-    pub shares-bounded :
-        (e : ℕ) → e < 5 → {x y z : ℤ} → x ≡ shareOf fractions changes p i e → y ≡ shareOf fractions changes p j e →
-        z ≡ shareOf fractions changes p 7 e → Bounded (x ∷ y ∷ z ∷ []) (10000000 ∷ 10000000 ∷ 10000000 ∷ [])
-    shares-bounded e he hx hy hz =
-        rw (hx, hy, hz) (share-bound i e hi he & share-bound j e hj he & share-bound 7 e (omega arith) he & all)
-
-    released-bound : (e : ℕ) → e < 5 → natAbs (releasedPart fractions changes p i j e) ≤ 30000000
-    unfolding releasedPart
-    released-bound e he = abs-under (shares-bounded e he refl refl refl) (⊝ (v 0 ⊕ v 1 ⊕ v 2)) 30000000 tt
-
-    pub released-in : InReleased (releasedBy fractions changes p i j)
-    unfolding releasedBy
-    released-in =
-        record {
-          c = released-bound 0 (omega arith);
-          h = released-bound 1 (omega arith);
-          o = released-bound 2 (omega arith);
-          n = released-bound 3 (omega arith);
-          p = released-bound 4 (omega arith);
-        }
+  pub released-in : (a b c : Fractions) → Thousandths a → Thousandths b → Thousandths c → InReleased (releasedBy x a y b z c)
+  unfolding releasedBy
+  released-in a b c ha hb hc =
+      record {
+        c = part-in _ _ _ (ha .carbon) (hb .carbon) (hc .carbon);
+        h = part-in _ _ _ (ha .hydrogen) (hb .hydrogen) (hc .hydrogen);
+        o = part-in _ _ _ (ha .oxygen) (hb .oxygen) (hc .oxygen);
+        n = part-in _ _ _ (ha .nitrogen) (hb .nitrogen) (hc .nitrogen);
+        p = part-in _ _ _ (ha .phosphorus) (hb .phosphorus) (hc .phosphorus);
+      }
 
 -- The atoms: what is released and what a row does besides, then any more. Their bounds are those of `InReleased` and
 -- `InKind`.
@@ -152,8 +115,57 @@ pub fifteenth-bound : (r : Released) (k : Kind) → InReleased r → InKind k �
 unfolding fifteenthOf
 fifteenth-bound r k hr hk = abs-under (atoms-bounded hr hk all) fifteenth 1000000000000 tt
 
--- The four steps of `others_from` together.
-pub others-of :
-    {r s : Released} {k l : Kind} {e : ℤ} {d : Others} → r ≡ s → k ≡ l → e ≡ fifteenthOf r k → d ≡ othersOf r k e →
-    d ≡ othersOf s l (fifteenthOf s l)
-others-of hr hk he hd = rw (hd, he, hr, hk)
+-- The steps of `others_of` together.
+pub others-of : (r : Released) {k l : Kind} {e : ℤ} {d : Others} → k ≡ l → e ≡ fifteenthOf r k → d ≡ othersOf r k e
+    → d ≡ othersFrom r l
+unfolding othersFrom
+others-of r hk he hd = rw (hd, he, hk)
+
+-- The locals of `other_changes`, with e for E / 15.
+abbrev pub freed : Ex
+freed = 22320 · nitrogen
+
+abbrev pub toNitrate : Ex
+toNitrate = freed ⊗ nitrate
+
+abbrev pub toNitrite : Ex
+toNitrite = freed ⊗ nitrite
+
+abbrev pub nh4Oxidised : Ex
+nh4Oxidised = 22320 · nh4no2
+
+abbrev pub no2Oxidised : Ex
+no2Oxidised = 22320 · no2no3
+
+abbrev pub moved : Ex
+moved = toNitrate ⊕ toNitrite ⊕ nh4Oxidised
+
+abbrev pub bicarbonate : Ex
+bicarbonate = 26040 · carbon
+
+-- The changes that it computes.
+abbrev pub nh4Change : Ex
+nh4Change = freed ⊖ moved
+
+abbrev pub hpo4Change : Ex
+hpo4Change = 10080 · phosphorus ⊖ adsorbed
+
+module _ (e : Ex) where
+  abbrev pub no2Change : Ex
+  no2Change = toNitrite ⊕ nh4Oxidised ⊖ no2Oxidised ⊖ 30 · (e ⊗ no3no2) ⊕ 20 · (e ⊗ no2n2)
+
+  abbrev pub no3Change : Ex
+  no3Change = toNitrate ⊕ no2Oxidised ⊕ 30 · (e ⊗ no3no2) ⊕ 12 · (e ⊗ no3n2)
+
+  abbrev pub o2Change : Ex
+  o2Change = 15 · (e ⊖ e ⊗ no3no2 ⊖ e ⊗ no2n2 ⊖ e ⊗ no3n2)
+
+  abbrev pub hChange : Ex
+  hChange = bicarbonate ⊕ 20160 · phosphorus ⊖ freed ⊕ 2 · moved ⊕ 20 · (e ⊗ no2n2) ⊕ 12 · (e ⊗ no3n2)
+
+  abbrev pub h2oChange : Ex
+  h2oChange =
+      156240 · hydrogen ⊖ bicarbonate ⊖ 33480 · nitrogen ⊖ 15120 · phosphorus ⊕ moved ⊖ 10 · (e ⊗ no2n2) ⊖ 6 · (e ⊗ no3n2)
+
+  abbrev pub n2Change : Ex
+  n2Change = # (pos 0) ⊖ 10 · (e ⊗ no2n2) ⊖ 6 · (e ⊗ no3n2)

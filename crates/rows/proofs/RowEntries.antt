@@ -1,6 +1,6 @@
--- The rows that the code computes from its tables, entry for entry: `coded-entry`, and E: `coded-oxygen`, for a set in range.
+-- The rows that the code computes, entry for entry: `coded-entry`, and E: `coded-oxygen`, for a set in range.
 -- A weighted sum with the weight 1 at one place and 0 elsewhere is the entry there, on both sides. No assumptions.
-use Prim.Native.Nat.{ℕ, zero, suc, _+_, _*_, _<_}
+use Prim.Native.Nat.{ℕ, zero, suc, _+_, _<_}
 use mathlib.Core.Bool.{Bool, true, false, cond}
 use mathlib.Core.List.{List, [], _∷_}
 use mathlib.Core.Path.{_≡_, refl, sym, ap, ap₂, _∙_, fun-ext}
@@ -17,10 +17,10 @@ use Rattle.stoichiometry.specs.declared.Set.{Set}
 use Rattle.rows.specs.declared.row.Others.{Others}
 use Rattle.stoichiometry.specs.Substances.{Organic, ss, si, xh, xn1, xn2, xalg, xs, xi, organics, Substance, organic, place, fractionsOf}
 use Rattle.stoichiometry.specs.Rows.{processes, Change, _by_, weighted, entry, released, closure, nitrogenAs, furtherBy, acceptorFor, oxygenChange, row, processAt, rowEntry}
-use Rattle.rows.specs.Code.{Ranged, fractionTable, changesOf, firstTable, secondTable, releasedPart, releasedBy, fifteenthOf, othersOf, othersFrom, rowList, codedOthers}
+use Rattle.rows.specs.Code.{Ranged, firstTable, secondTable, releasedPart, releasedBy, othersOf, othersFrom, rowList, changeAt, lineAt, fractionsAt, codedReleased, codedOthers}
 use Rattle.stoichiometry.proofs.Contents.{weighted-append, weighted-organic}
 use Rattle.stoichiometry.proofs.Exact.{oxygen-change-is}
-use Rattle.rows.proofs.Lines.{index, kindOf, line}
+use Rattle.rows.proofs.Lines.{by-organic, kindOf, line}
 use Rattle.rows.proofs.Coded.{releasedOf, listed, others-weighted, fifteenth-is}
 
 abbrev unit : ℕ → ℕ → ℤ
@@ -53,48 +53,40 @@ spread-at i (x ∷ l) (suc j) =
     rw (ne-eqb i (i + suc j) (λ e. omega arith), add-suc, ← suc-add, spread-at (suc i) l j)
     (solve (x ∷ getD l j (pos 0) ∷ []) (v 0 ⊗ # (pos 0) ⊕ v 1) (v 1) tt)
 
-by-index : (P : Organic → Type 0) → P ss → P si → P xh → P xn1 → P xn2 → P xalg → P xs → P xi → (x : Organic) → P x
-by-index P a b c d e f g h ss = a
-by-index P a b c d e f g h si = b
-by-index P a b c d e f g h xh = c
-by-index P a b c d e f g h xn1 = d
-by-index P a b c d e f g h xn2 = e
-by-index P a b c d e f g h xalg = f
-by-index P a b c d e f g h xs = g
-by-index P a b c d e f g h xi = h
+-- What the code computes of one element, with its fraction of an organic.
+abbrev pub codedPart : Set → ℕ → (Fractions → ℕ) → ℤ
+codedPart set p fraction =
+    let i = getD firstTable p 0 in
+    let j = getD secondTable p 0 in
+    let f : ℕ → ℕ = λ o. fraction (fractionsAt set o) in
+    releasedPart (changeAt set p i) (f i) (changeAt set p j) (f j) (changeAt set p 7) (f 7)
 
 module _ (set : Set) (g : Ranged set) (p : ℕ) (h : p < processes) where
-  part-is : (e : ℕ) (fraction : Fractions → ℕ)
-      → ((x : Organic) → pos (getD (fractionTable (set .fractions)) (index x * 5 + e) 0) ≡ pos (fraction (fractionsOf set x)))
-      → releasedPart (fractionTable (set .fractions)) (changesOf (set .yields) (set .inert)) p (getD firstTable p 0) (getD secondTable p 0) e
-      ≡ negℤ (weighted (λ x. pos (fraction (fractionsOf set x))) (processAt set p .changes))
+  pub part-is : (fraction : Fractions → ℕ)
+      → codedPart set p fraction ≡ negℤ (weighted (λ x. pos (fraction (fractionsOf set x))) (processAt set p .changes))
   unfolding releasedPart
-  part-is e fraction same =
+  part-is fraction =
       ap negℤ
-      (sym (line set g p h .three (λ o. pos (getD (fractionTable (set .fractions)) (o * 5 + e) 0)))
-      ∙ ap (λ (w : Organic → ℤ). weighted w (processAt set p .changes)) (fun-ext same))
+      (sym (line set g p h .three (λ o. pos (fraction (fractionsAt set o))))
+      ∙ ap (λ (w : Organic → ℤ). weighted w (processAt set p .changes))
+      (fun-ext (by-organic _ refl refl refl refl refl refl refl refl)))
 
-  released-is : releasedBy (fractionTable (set .fractions)) (changesOf (set .yields) (set .inert)) p (getD firstTable p 0) (getD secondTable p 0)
-      ≡ releasedOf (released set (processAt set p .changes))
+  released-is : codedReleased set p ≡ releasedOf (released set (processAt set p .changes))
   unfolding releasedBy
   released-is =
-      let c = part-is 0 (λ f. f .carbon) (by-index _ refl refl refl refl refl refl refl refl) in
-      let hy = part-is 1 (λ f. f .hydrogen) (by-index _ refl refl refl refl refl refl refl refl) in
-      let o = part-is 2 (λ f. f .oxygen) (by-index _ refl refl refl refl refl refl refl refl) in
-      let n = part-is 3 (λ f. f .nitrogen) (by-index _ refl refl refl refl refl refl refl refl) in
-      let ph = part-is 4 (λ f. f .phosphorus) (by-index _ refl refl refl refl refl refl refl refl) in
+      let c = part-is (λ f. f .carbon) in
+      let hy = part-is (λ f. f .hydrogen) in
+      let o = part-is (λ f. f .oxygen) in
+      let n = part-is (λ f. f .nitrogen) in
+      let ph = part-is (λ f. f .phosphorus) in
       λ i. record { c = c i; h = hy i; o = o i; n = n i; p = ph i }
 
-  others-is : codedOthers set p ≡
-      let r = releasedOf (released set (processAt set p .changes)) in
-      let k = kindOf (processAt set p) in
-      othersOf r k (fifteenthOf r k)
-  unfolding othersFrom
-  others-is = rw (released-is, line set g p h .kind)
+  others-is : codedOthers set p ≡ othersFrom (releasedOf (released set (processAt set p .changes))) (kindOf (processAt set p))
+  others-is = rw (released-is, line set g p h .kind-is)
 
   -- E of a process, as the code computes it.
   pub coded-oxygen : codedOthers set p .e ≡ oxygenChange set (processAt set p)
-  unfolding othersOf
+  unfolding othersFrom othersOf
   coded-oxygen =
       ap (λ (d : Others). d .e) others-is
       ∙ ap (λ (z : ℤ). pos 15 *ℤ z) (sym (fifteenth-is set (processAt set p)))
@@ -102,12 +94,12 @@ module _ (set : Set) (g : Ranged set) (p : ℕ) (h : p < processes) where
 
   -- A row's weighted sum for any weight of the substances, from what the code computes.
   row-weighted : (w : Substance → ℤ) →
-      let d : ℕ → ℤ = λ o. getD (changesOf (set .yields) (set .inert)) (p * 8 + o) (pos 0) in
+      let d = changeAt set p in
       let u : Organic → ℤ = λ x. w (organic x) in
       weighted w (row set (processAt set p))
       ≡ d 0 *ℤ u ss +ℤ d 1 *ℤ u si +ℤ d 2 *ℤ u xh +ℤ d 3 *ℤ u xn1 +ℤ d 4 *ℤ u xn2 +ℤ d 5 *ℤ u xalg +ℤ d 6 *ℤ u xs +ℤ d 7 *ℤ u xi
       +ℤ weighted w (listed (codedOthers set p))
-  unfolding row
+  unfolding row othersFrom
   row-weighted w =
       let q = processAt set p in
       let r = released set (q .changes) in
@@ -119,17 +111,17 @@ module _ (set : Set) (g : Ranged set) (p : ℕ) (h : p < processes) where
       rw (weighted-append, weighted-append, weighted-append, weighted-append, weighted-organic, others-is, ← others-weighted w set q)
       (solve (o ∷ c ∷ n ∷ f ∷ a ∷ []) (v 0 ⊕ v 1 ⊕ v 2 ⊕ v 3 ⊕ v 4) (v 0 ⊕ (v 1 ⊕ v 2 ⊕ v 3 ⊕ v 4)) tt
       ∙ ap (λ (z : ℤ). z +ℤ (c +ℤ n +ℤ f +ℤ a))
-      (ap (λ (u : Organic → ℤ). weighted u (q .changes)) (fun-ext (by-index _ refl refl refl refl refl refl refl refl))
+      (ap (λ (u : Organic → ℤ). weighted u (q .changes)) (fun-ext (by-organic _ refl refl refl refl refl refl refl refl))
       ∙ line set g p h .all-eight (λ k. w (organic (getD organics k xi)))))
 
   -- The entries of a row, as the code computes them.
-  pub coded-entry : (s : ℕ) → getD (rowList (changesOf (set .yields) (set .inert)) p (codedOthers set p)) s (pos 0) ≡ rowEntry set p s
+  pub coded-entry : (s : ℕ) → getD (rowList (lineAt set p) (codedOthers set p)) s (pos 0) ≡ rowEntry set p s
   unfolding rowEntry rowList
   coded-entry s =
-      let d : ℕ → ℤ = λ o. getD (changesOf (set .yields) (set .inert)) (p * 8 + o) (pos 0) in
+      let d = changeAt set p in
       let e = codedOthers set p in
       let u : ℕ → ℤ = λ k. unit k s in
-      sym (rw zero-add at (spread-at 0 (rowList (changesOf (set .yields) (set .inert)) p (codedOthers set p)) s))
+      sym (rw zero-add at (spread-at 0 (rowList (lineAt set p) (codedOthers set p)) s))
       ∙ solve
       (d 0 ∷ d 1 ∷ e .nh4 ∷ e .no2 ∷ e .no3 ∷ e .hpo4 ∷ e .o2 ∷ e .hco3 ∷ e .h ∷ d 2 ∷ d 3 ∷ d 4 ∷ d 5 ∷ d 6 ∷ d 7
       ∷ e .xp ∷ e .h2o ∷ e .n2 ∷ u 0 ∷ u 1 ∷ u 2 ∷ u 3 ∷ u 4 ∷ u 5 ∷ u 6 ∷ u 7 ∷ u 8 ∷ u 9 ∷ u 10 ∷ u 11 ∷ u 12 ∷ u 13

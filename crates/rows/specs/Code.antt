@@ -1,35 +1,24 @@
--- How the code lays the processes out: tables, and the arithmetic of a row without a division. Inner definitions that
--- nobody need believe: proofs/Coded.antt ties them to Rows.antt. No assumptions.
-use Prim.Native.Nat.{ℕ, _+_, _*_, _-_, _/_, _%_, _≤_, _<_}
+-- How the code lays the processes out: a line of organic changes and one of numbers for each, which the code writes as the
+-- arguments of its calls, and the arithmetic of a row without a division. Inner definitions that nobody need believe:
+-- proofs/Coded.antt ties them to Rows.antt. No assumptions.
+use Prim.Native.Nat.{ℕ, _+_, _*_, _-_, _/_, _%_, _≤_}
 use mathlib.Core.Bool.{Bool, true, not, _&&_, cond}
 use mathlib.Core.List.{List, [], _∷_}
 use lib.Dec.{eqb}
 use lib.Signed.{leZ, ltZ}
 use lib.ListN.{getD}
 use lib.IntN.{ℤ, pos, negℤ, natAbs, _+ℤ_, _-ℤ_, _*ℤ_}
-use Rattle.stoichiometry.specs.declared.Organics.{Organics}
+use Rattle.stoichiometry.specs.declared.Fractions.{Fractions}
 use Rattle.stoichiometry.specs.declared.Yields.{Yields}
 use Rattle.stoichiometry.specs.declared.InertFractions.{InertFractions}
 use Rattle.stoichiometry.specs.declared.Set.{Set}
 use Rattle.rows.specs.declared.row.Released.{Released}
 use Rattle.rows.specs.declared.row.Kind.{Kind}
 use Rattle.rows.specs.declared.row.Others.{Others}
-use Rattle.rows.specs.declared.matrix.Matrix.{Matrix}
 use Rattle.numeric.specs.Check.{every}
-use Rattle.numeric.specs.Table.{tab}
-use Rattle.stoichiometry.specs.Rows.{processes, processAt, oxygenChange, rowsOf}
-
--- Five fractions for each organic, in the order of `organics`.
-abbrev pub fractionTable : Organics → List ℕ
-fractionTable f =
-    f .ss .carbon ∷ f .ss .hydrogen ∷ f .ss .oxygen ∷ f .ss .nitrogen ∷ f .ss .phosphorus
-    ∷ f .si .carbon ∷ f .si .hydrogen ∷ f .si .oxygen ∷ f .si .nitrogen ∷ f .si .phosphorus
-    ∷ f .xh .carbon ∷ f .xh .hydrogen ∷ f .xh .oxygen ∷ f .xh .nitrogen ∷ f .xh .phosphorus
-    ∷ f .xn1 .carbon ∷ f .xn1 .hydrogen ∷ f .xn1 .oxygen ∷ f .xn1 .nitrogen ∷ f .xn1 .phosphorus
-    ∷ f .xn2 .carbon ∷ f .xn2 .hydrogen ∷ f .xn2 .oxygen ∷ f .xn2 .nitrogen ∷ f .xn2 .phosphorus
-    ∷ f .xalg .carbon ∷ f .xalg .hydrogen ∷ f .xalg .oxygen ∷ f .xalg .nitrogen ∷ f .xalg .phosphorus
-    ∷ f .xs .carbon ∷ f .xs .hydrogen ∷ f .xs .oxygen ∷ f .xs .nitrogen ∷ f .xs .phosphorus
-    ∷ f .xi .carbon ∷ f .xi .hydrogen ∷ f .xi .oxygen ∷ f .xi .nitrogen ∷ f .xi .phosphorus ∷ []
+use Rattle.numeric.specs.Table.{tab, run}
+use Rattle.stoichiometry.specs.Substances.{Organic, organics, xi, fractionsOf}
+use Rattle.stoichiometry.specs.Rows.{processes, processAt, oxygenChange, rowEntry}
 
 -- One line of changes for a process: SS SI XH XN1 XN2 XALG XS XI.
 abbrev pub changeTable : ℤ → ℤ → ℤ → ℤ → ℤ → ℤ → ℤ → ℤ → ℤ → ℤ → List ℤ
@@ -98,12 +87,13 @@ secondTable = 0 ∷ 0 ∷ 0 ∷ 0 ∷ 0 ∷ 0 ∷ 0 ∷ 0 ∷ 0 ∷ 0 ∷ 0 ∷ 
 abbrev pub askedTable : List ℕ
 askedTable = 1 ∷ 1 ∷ 1 ∷ 1 ∷ 1 ∷ 1 ∷ 1 ∷ 1 ∷ 1 ∷ 1 ∷ 0 ∷ 0 ∷ 1 ∷ 2 ∷ 2 ∷ 0 ∷ 0 ∷ []
 
--- All changes are small, all fractions at most 1,000.
-pub record SmallChanges (changes : List ℤ) : Type 0 where
-  pub small : (k : ℕ) → k < 136 → natAbs (getD changes k (pos 0)) ≤ 10000
-
-pub record Thousandths (fractions : List ℕ) : Type 0 where
-  pub most : (k : ℕ) → k < 40 → getD fractions k 0 ≤ 1000
+-- All fractions of an organic are at most 1,000.
+pub record Thousandths (f : Fractions) : Type 0 where
+  pub carbon : f .carbon ≤ 1000
+  pub hydrogen : f .hydrogen ≤ 1000
+  pub oxygen : f .oxygen ≤ 1000
+  pub nitrogen : f .nitrogen ≤ 1000
+  pub phosphorus : f .phosphorus ≤ 1000
 
 -- What the arithmetic of rows needs of a set; checks 1 and 2 give it.
 pub record Ranged (set : Set) : Type 0 where
@@ -116,40 +106,39 @@ pub record Ranged (set : Set) : Type 0 where
   pub hydrolysis : set .yields .hydrolysis ≤ 100
   pub bacteria : set .inert .bacteria ≤ 100
   pub algae : set .inert .algae ≤ 100
-  pub fractions : Thousandths (fractionTable (set .fractions))
+  pub fractions : (x : Organic) → Thousandths (fractionsOf set x)
 
--- Organic change × fraction of the element e, of the organic i in process p.
-abbrev pub shareOf : List ℕ → List ℤ → ℕ → ℕ → ℕ → ℤ
-shareOf fractions changes p i e = getD changes (p * 8 + i) (pos 0) *ℤ pos (getD fractions (i * 5 + e) 0)
+-- What the changes x, y and z of organics with the fractions a, b and c release, of one element and of each.
+unfoldable pub releasedPart : ℤ → ℕ → ℤ → ℕ → ℤ → ℕ → ℤ
+releasedPart x a y b z c = negℤ (x *ℤ pos a +ℤ y *ℤ pos b +ℤ z *ℤ pos c)
 
--- What the organics i, j and XI of process p release of the element e.
-unfoldable pub releasedPart : List ℕ → List ℤ → ℕ → ℕ → ℕ → ℕ → ℤ
-releasedPart fractions changes p i j e =
-    negℤ (shareOf fractions changes p i e +ℤ shareOf fractions changes p j e +ℤ shareOf fractions changes p 7 e)
-
-unfoldable pub releasedBy : List ℕ → List ℤ → ℕ → ℕ → ℕ → Released
-releasedBy fractions changes p i j =
+unfoldable pub releasedBy : ℤ → Fractions → ℤ → Fractions → ℤ → Fractions → Released
+releasedBy x a y b z c =
     record {
-      c = releasedPart fractions changes p i j 0;
-      h = releasedPart fractions changes p i j 1;
-      o = releasedPart fractions changes p i j 2;
-      n = releasedPart fractions changes p i j 3;
-      p = releasedPart fractions changes p i j 4;
+      c = releasedPart x (a .carbon) y (b .carbon) z (c .carbon);
+      h = releasedPart x (a .hydrogen) y (b .hydrogen) z (c .hydrogen);
+      o = releasedPart x (a .oxygen) y (b .oxygen) z (c .oxygen);
+      n = releasedPart x (a .nitrogen) y (b .nitrogen) z (c .nitrogen);
+      p = releasedPart x (a .phosphorus) y (b .phosphorus) z (c .phosphorus);
+    }
+
+abbrev pub kind : ℤ → ℤ → ℤ → ℤ → ℤ → ℤ → ℤ → ℤ → Kind
+kind nitrate nitrite nh4no2 no2no3 adsorbed no3no2 no2n2 no3n2 =
+    record {
+      nitrate = nitrate;
+      nitrite = nitrite;
+      nh4no2 = nh4no2;
+      no2no3 = no2no3;
+      adsorbed = adsorbed;
+      no3no2 = no3no2;
+      no2n2 = no2n2;
+      no3n2 = no3n2;
     }
 
 unfoldable pub kindAt : List ℤ → ℕ → Kind
 kindAt kinds p =
     let column : ℕ → ℤ = λ j. getD kinds (p * 8 + j) (pos 0) in
-    record {
-      nitrate = column 0;
-      nitrite = column 1;
-      nh4no2 = column 2;
-      no2no3 = column 3;
-      adsorbed = column 4;
-      no3no2 = column 5;
-      no2n2 = column 6;
-      no3n2 = column 7;
-    }
+    kind (column 0) (column 1) (column 2) (column 3) (column 4) (column 5) (column 6) (column 7)
 
 -- E / 15.
 unfoldable pub fifteenthOf : Released → Kind → ℤ
@@ -201,38 +190,55 @@ pub record InKind (k : Kind) : Type 0 where
   pub no2n2 : natAbs (k .no2n2) ≤ 1
   pub no3n2 : natAbs (k .no3n2) ≤ 1
 
--- The entries of a row, in the order of the substances.
-unfoldable pub rowList : List ℤ → ℕ → Others → List ℤ
-rowList changes p d =
-    let x : ℕ → ℤ = λ o. getD changes (p * 8 + o) (pos 0) in
+-- The changes of the substances that are no organics, from what is released.
+unfoldable pub othersFrom : Released → Kind → Others
+othersFrom r k = othersOf r k (fifteenthOf r k)
+
+-- The entries of a row, in the order of the substances, from a line of organic changes and the other changes.
+unfoldable pub rowList : List ℤ → Others → List ℤ
+rowList line d =
+    let x : ℕ → ℤ = λ o. getD line o (pos 0) in
     x 0 ∷ x 1 ∷ d .nh4 ∷ d .no2 ∷ d .no3 ∷ d .hpo4 ∷ d .o2 ∷ d .hco3 ∷ d .h
     ∷ x 2 ∷ x 3 ∷ x 4 ∷ x 5 ∷ x 6 ∷ x 7 ∷ d .xp ∷ d .h2o ∷ d .n2 ∷ []
 
--- The changes of a row's substances that are no organics, from the tables.
-unfoldable pub othersFrom : List ℕ → List ℤ → List ℤ → ℕ → ℕ → ℕ → Others
-othersFrom fractions changes kinds p i j =
-    let r = releasedBy fractions changes p i j in
-    let k = kindAt kinds p in
-    othersOf r k (fifteenthOf r k)
+-- A line in which SI does not change.
+abbrev pub organicLine : ℤ → ℤ → ℤ → ℤ → ℤ → ℤ → ℤ → List ℤ
+organicLine ss xh xn1 xn2 xalg xs inert = ss ∷ pos 0 ∷ xh ∷ xn1 ∷ xn2 ∷ xalg ∷ xs ∷ inert ∷ []
 
--- All rows of a set, and E of each process.
-unfoldable pub matrixOf : Set → Matrix
-matrixOf set =
-    record { entries = rowsOf set; oxygen = tab processes (λ p. oxygenChange set (processAt set p)) }
+-- What the code computes of the process at p: its line, what its organics release, the other changes.
+abbrev pub changeAt : Set → ℕ → ℕ → ℤ
+changeAt set p o = getD (changesOf (set .yields) (set .inert)) (p * 8 + o) (pos 0)
 
--- What the loop over the processes stores: the entry at k of all rows, and E of process p.
-unfoldable pub entryFrom : List ℕ → List ℤ → List ℤ → List ℕ → List ℕ → ℕ → ℤ
-entryFrom fractions changes kinds first second k =
-    let p = k / 18 in
-    getD (rowList changes p (othersFrom fractions changes kinds p (getD first p 0) (getD second p 0))) (k % 18) (pos 0)
+abbrev pub lineAt : Set → ℕ → List ℤ
+lineAt set p =
+    let x = changeAt set p in
+    x 0 ∷ x 1 ∷ x 2 ∷ x 3 ∷ x 4 ∷ x 5 ∷ x 6 ∷ x 7 ∷ []
 
-unfoldable pub oxygenFrom : List ℕ → List ℤ → List ℤ → List ℕ → List ℕ → ℕ → ℤ
-oxygenFrom fractions changes kinds first second p = othersFrom fractions changes kinds p (getD first p 0) (getD second p 0) .e
+abbrev pub fractionsAt : Set → ℕ → Fractions
+fractionsAt set o = fractionsOf set (getD organics o xi)
 
--- What the code computes of process p, from the tables of a set.
+abbrev pub codedReleased : Set → ℕ → Released
+codedReleased set p =
+    let i = getD firstTable p 0 in
+    let j = getD secondTable p 0 in
+    releasedBy (changeAt set p i) (fractionsAt set i) (changeAt set p j) (fractionsAt set j) (changeAt set p 7) (fractionsAt set 7)
+
 abbrev pub codedOthers : Set → ℕ → Others
-codedOthers set p =
-    othersFrom (fractionTable (set .fractions)) (changesOf (set .yields) (set .inert)) (kindsOf set) p (getD firstTable p 0) (getD secondTable p 0)
+codedOthers set p = othersFrom (codedReleased set p) (kindAt (kindsOf set) p)
+
+-- All entries with the row of process p stored; with the rows of n processes from p on; the E's likewise.
+unfoldable pub rowStored : ℕ → List ℤ → Others → List ℤ → List ℤ
+rowStored p line d entries = run entries (p * 18) 18 (λ s. getD (rowList line d) s (pos 0))
+
+unfoldable pub rowsFrom : Set → ℕ → ℕ → List ℤ → List ℤ
+rowsFrom set p n entries = run entries (p * 18) (n * 18) (λ s. rowEntry set ((p * 18 + s) / 18) ((p * 18 + s) % 18))
+
+unfoldable pub oxygenFrom : Set → ℕ → ℕ → List ℤ → List ℤ
+oxygenFrom set p n oxygen = run oxygen p n (λ s. oxygenChange set (processAt set (p + s)))
+
+-- E of every process.
+unfoldable pub oxygenOf : Set → List ℤ
+oxygenOf set = tab processes (λ p. oxygenChange set (processAt set p))
 
 -- Check 3 on the rows and the E's that the code made.
 unfoldable pub askedOf : List ℤ → List ℤ → ℕ → ℕ → Bool

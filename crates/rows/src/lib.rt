@@ -3,14 +3,16 @@
 ghost use mathlib.Core.Path.{_≡_};
 ghost use Rattle.stoichiometry.specs.Sets.{setNumber};
 ghost use Rattle.rows.specs.Answers.{rowsAnswer, refusedRows};
-use crate::matrix::matrix_of;
-use crate::matrix::rows_wrong;
+use crate::check::rows_wrong;
+use crate::processes::fill_rows;
 use stoichiometry::ENTRIES;
+use stoichiometry::PROCESSES;
 use stoichiometry::Set;
 
-mod matrix;
+mod check;
+mod figure;
+mod processes;
 mod row;
-mod table;
 
 // All rows of a set: entry s of process p, both counted from 0, stands at p * SUBSTANCES + s. Organics in µg a batch,
 // the others in grains a batch. On refusal the set's number and zeros.
@@ -29,9 +31,9 @@ pub fn number_of(set: Set) -> u32
     if set.figures_wrong() {
         return 2;
     }
-    let m = matrix_of(set);
-    let entries = m.entries;
-    let oxygen = m.oxygen;
+    let mut entries = [0; ENTRIES];
+    let mut oxygen = [0; PROCESSES];
+    fill_rows(set, &mut entries, &mut oxygen);
     if rows_wrong(&entries, &oxygen) {
         return 3;
     }
@@ -48,9 +50,9 @@ pub fn rows_of(set: Set) -> Rows
     if set.figures_wrong() {
         return refused(2);
     }
-    let m = matrix_of(set);
-    let entries = m.entries;
-    let oxygen = m.oxygen;
+    let mut entries = [0; ENTRIES];
+    let mut oxygen = [0; PROCESSES];
+    fill_rows(set, &mut entries, &mut oxygen);
     if rows_wrong(&entries, &oxygen) {
         return refused(3);
     }

@@ -1,8 +1,10 @@
 // One row: the elements that its organic changes release, and the changes of the other substances, without a division.
 ghost use mathlib.Core.Path.{_≡_};
-ghost use Prim.Native.Nat.{_≤_, _<_};
-ghost use lib.IntN.{pos, natAbs, _*ℤ_};
-ghost use Rattle.rows.specs.Code.{SmallChanges, Thousandths, releasedPart, releasedBy, kindAt, fifteenthOf, othersOf, InReleased, InKind, rowList};
+ghost use Prim.Native.Nat.{_≤_};
+ghost use lib.IntN.{natAbs};
+ghost use Rattle.rows.specs.Code.{Thousandths, InReleased, InKind, releasedPart, releasedBy, kind, fifteenthOf, othersOf};
+ghost use Rattle.rows.specs.Code.{othersFrom, organicLine, rowList};
+use stoichiometry::Fractions;
 
 // Elements that a row's organic changes release, thousandth-µg.
 pub(crate) struct Released {
@@ -41,70 +43,37 @@ pub(crate) struct Others {
     pub e: i64,
 }
 
-// Organic change × fraction, thousandth-µg.
-fn share(change: i64, fraction: u32) -> i64
-    requires { ⌜ (natAbs change ≤ 10000) × (fraction ≤ 1000) ⌝ }
-    ensures { λ r. ⌜ r ≡ change *ℤ pos fraction ⌝ }
+// Minus the sum of change × fraction: what three organic changes release of an element.
+fn released_part(x: i64, a: u32, y: i64, b: u32, z: i64, c: u32) -> i64
+    requires { ⌜ (natAbs x ≤ 10000) × (natAbs y ≤ 10000) × (natAbs z ≤ 10000) × (a ≤ 1000) × (b ≤ 1000) × (c ≤ 1000) ⌝ }
+    ensures { λ r. ⌜ r ≡ releasedPart x a y b z c ⌝ }
 {
-    change * fraction as i64
+    -(x * a as i64 + y * b as i64 + z * c as i64)
 }
 
-// What the organics i, j and XI of process p release of the element e.
-fn released_part(
-    fractions: &[u32; 40],
-    changes: &[i64; 136],
-    p: usize,
-    i: usize,
-    j: usize,
-    e: usize,
-) -> i64
-    requires { ⌜ (p < 17) × (i < 8) × (j < 8) × (e < 5) × Thousandths (now fractions) × SmallChanges (now changes) ⌝ }
-    ensures { λ r. ⌜ r ≡ releasedPart (now (fractions .entry)) (now (changes .entry)) p i j e ⌝ }
-{
-    let x = share(changes[p * 8 + i], fractions[i * 5 + e]);
-    let y = share(changes[p * 8 + j], fractions[j * 5 + e]);
-    let z = share(changes[p * 8 + 7], fractions[35 + e]);
-    -(x + y + z)
-}
-
+// What the changes x, y and z of organics with the fractions a, b and c release.
 pub(crate) fn released_by(
-    fractions: &[u32; 40],
-    changes: &[i64; 136],
-    p: usize,
-    i: usize,
-    j: usize,
+    x: i64,
+    a: Fractions,
+    y: i64,
+    b: Fractions,
+    z: i64,
+    c: Fractions,
 ) -> Released
-    requires { ⌜ (p < 17) × (i < 8) × (j < 8) × Thousandths (now fractions) × SmallChanges (now changes) ⌝ }
-    ensures { λ r. ⌜ r ≡ releasedBy (now (fractions .entry)) (now (changes .entry)) p i j ⌝ }
+    requires { ⌜ (natAbs x ≤ 10000) × (natAbs y ≤ 10000) × (natAbs z ≤ 10000) × Thousandths a × Thousandths b × Thousandths c ⌝ }
+    ensures { λ r. ⌜ r ≡ releasedBy x a y b z c ⌝ }
 {
     Released {
-        c: released_part(fractions, changes, p, i, j, 0),
-        h: released_part(fractions, changes, p, i, j, 1),
-        o: released_part(fractions, changes, p, i, j, 2),
-        n: released_part(fractions, changes, p, i, j, 3),
-        p: released_part(fractions, changes, p, i, j, 4),
-    }
-}
-
-pub(crate) fn kind_at(kinds: &[i64; 136], p: usize) -> Kind
-    requires { ⌜ p < 17 ⌝ }
-    ensures { λ r. ⌜ r ≡ kindAt (now (kinds .entry)) p ⌝ }
-{
-    let b = p * 8;
-    Kind {
-        nitrate: kinds[b],
-        nitrite: kinds[b + 1],
-        nh4no2: kinds[b + 2],
-        no2no3: kinds[b + 3],
-        adsorbed: kinds[b + 4],
-        no3no2: kinds[b + 5],
-        no2n2: kinds[b + 6],
-        no3n2: kinds[b + 7],
+        c: released_part(x, a.carbon, y, b.carbon, z, c.carbon),
+        h: released_part(x, a.hydrogen, y, b.hydrogen, z, c.hydrogen),
+        o: released_part(x, a.oxygen, y, b.oxygen, z, c.oxygen),
+        n: released_part(x, a.nitrogen, y, b.nitrogen, z, c.nitrogen),
+        p: released_part(x, a.phosphorus, y, b.phosphorus, z, c.phosphorus),
     }
 }
 
 // E / 15, which is whole: every E is a multiple of 15.
-pub(crate) fn fifteenth(r: Released, k: Kind) -> i64
+fn fifteenth(r: Released, k: Kind) -> i64
     requires { ⌜ InReleased r × InKind k ⌝ }
     ensures { λ e. ⌜ e ≡ fifteenthOf r k ⌝ }
 {
@@ -124,7 +93,7 @@ pub(crate) fn fifteenth(r: Released, k: Kind) -> i64
 }
 
 // The changes of the substances that are no organics, from e = E / 15.
-pub(crate) fn other_changes(r: Released, k: Kind, e: i64) -> Others
+fn other_changes(r: Released, k: Kind, e: i64) -> Others
     requires { ⌜ InReleased r × InKind k × (natAbs e ≤ 1000000000000) ⌝ }
     ensures { λ d. ⌜ d ≡ othersOf r k e ⌝ }
 {
@@ -164,14 +133,52 @@ pub(crate) fn other_changes(r: Released, k: Kind, e: i64) -> Others
     }
 }
 
-pub(crate) fn row(changes: &[i64; 136], p: usize, d: Others) -> [i64; 18]
-    requires { ⌜ p < 17 ⌝ }
-    ensures { λ r. ⌜ r ≡ rowList (now (changes .entry)) p d ⌝ }
+// The same from what is released and the numbers of a `Kind`. They are arguments of their own, not a `Kind`: where they
+// are literals, a compiler drops the products with 0.
+pub(crate) fn others_of(
+    r: Released,
+    nitrate: i64,
+    nitrite: i64,
+    nh4no2: i64,
+    no2no3: i64,
+    adsorbed: i64,
+    no3no2: i64,
+    no2n2: i64,
+    no3n2: i64,
+) -> Others
+    requires { ⌜ InReleased r × InKind (kind nitrate nitrite nh4no2 no2no3 adsorbed no3no2 no2n2 no3n2) ⌝ }
+    ensures { λ d. ⌜ d ≡ othersFrom r (kind nitrate nitrite nh4no2 no2no3 adsorbed no3no2 no2n2 no3n2) ⌝ }
 {
-    let b = p * 8;
+    let k = Kind {
+        nitrate,
+        nitrite,
+        nh4no2,
+        no2no3,
+        adsorbed,
+        no3no2,
+        no2n2,
+        no3n2,
+    };
+    let e = fifteenth(r, k);
+    other_changes(r, k, e)
+}
+
+// The entries of a row, from the changes of its organics (SI never changes) and of the others.
+pub(crate) fn row(
+    d: Others,
+    ss: i64,
+    xh: i64,
+    xn1: i64,
+    xn2: i64,
+    xalg: i64,
+    xs: i64,
+    xi: i64,
+) -> [i64; 18]
+    ensures { λ r. ⌜ r ≡ rowList (organicLine ss xh xn1 xn2 xalg xs xi) d ⌝ }
+{
     [
-        changes[b],
-        changes[b + 1],
+        ss,
+        0,
         d.nh4,
         d.no2,
         d.no3,
@@ -179,12 +186,12 @@ pub(crate) fn row(changes: &[i64; 136], p: usize, d: Others) -> [i64; 18]
         d.o2,
         d.hco3,
         d.h,
-        changes[b + 2],
-        changes[b + 3],
-        changes[b + 4],
-        changes[b + 5],
-        changes[b + 6],
-        changes[b + 7],
+        xh,
+        xn1,
+        xn2,
+        xalg,
+        xs,
+        xi,
         d.xp,
         d.h2o,
         d.n2,

@@ -1,25 +1,32 @@
 -- `rows::rows_of` meets its contract: each test is a check of the definition; the first that holds gives the refusal, and
--- where none does the rows are the matrix's. No assumptions.
+-- where none does the rows are those that were filled in. No assumptions.
 use mathlib.Core.Bool.{false}
 use mathlib.Core.Path.{_≡_, sym, _∙_}
 use borrow.Author.Needs.{needs}
+use lib.IntN.{pos}
+use lib.ListN.{length-replicate}
 use Rattle.stoichiometry.specs.declared.Set.{Set}
 use Rattle.stoichiometry.specs.Parameters.{fractionsWrong, figuresWrong}
+use Rattle.stoichiometry.specs.Rows.{rowsOf}
 use Rattle.stoichiometry.specs.Sets.{rowsWrong}
+use Rattle.rows.specs.Code.{oxygenOf}
 use Rattle.rows.specs.Answers.{rowsAnswer}
-use Rattle.rows.specs.Code.{matrixOf}
 use Rattle.rows.proofs.Ranges.{ranged}
 use Rattle.rows.proofs.CheckThree.{wrong-of-made}
+use Rattle.rows.proofs.Storing.{all-rows, all-oxygen}
 use Rattle.stoichiometry.proofs.SetNumber.{number-one, number-two, number-three, number-zero}
 use Rattle.rows.proofs.rows_of.Statement.{statement}
 use Rattle.rows.proofs.rows_of.Tie as tie
 
--- The set, where checks 1 and 2 are passed; and the place where the matrix was made, before its two arrays were lent.
+-- The set, where checks 1 and 2 are passed; and the place where the rows were filled, before the two arrays were lent.
 abbrev the-set : tie.Else2 → Set
 the-set c = c .before .before .before .before .args .set
 
-abbrev at-matrix : tie.After-rows-wrong → tie.After-matrix-of
-at-matrix c = let taken-out = c .before .before .before in taken-out .before .before
+abbrev at-rows : tie.After-rows-wrong → tie.After-fill-rows
+at-rows c = c .before .before .before
+
+abbrev passed : tie.After-fill-rows → tie.Else2
+passed c = c .before .before .before
 
 -- What the tests say of the checks.
 fractions-right : (c : tie.Else1) → fractionsWrong (c .before .before .args .set) ≡ false
@@ -28,8 +35,15 @@ fractions-right c = sym (c .before .fractions-wrong .ensures) ∙ c .if1 .left
 figures-right : (c : tie.Else2) → figuresWrong (the-set c) ≡ false
 figures-right c = sym (c .before .figures-wrong .ensures) ∙ c .if2 .left
 
-rows-tested : (c : tie.After-rows-wrong) → rowsWrong (the-set (at-matrix c .before)) ≡ c .rows-wrong .result
-rows-tested c = sym (c .rows-wrong .ensures ∙ wrong-of-made _ (at-matrix c .matrix-of .ensures))
+-- The rows and the E's that were filled in are the set's.
+rows-are : (c : tie.After-fill-rows) → c .fill-rows .last .1 .0 ≡ rowsOf (the-set (passed c))
+rows-are c = c .fill-rows .ensures .0 ∙ all-rows _ _ (length-replicate 306 (pos 0))
+
+oxygen-is : (c : tie.After-fill-rows) → c .fill-rows .last .1 .1 .0 ≡ oxygenOf (the-set (passed c))
+oxygen-is c = c .fill-rows .ensures .1 ∙ all-oxygen _ _ (length-replicate 17 (pos 0))
+
+rows-tested : (c : tie.After-rows-wrong) → rowsWrong (the-set (passed (at-rows c))) ≡ c .rows-wrong .result
+rows-tested c = sym (c .rows-wrong .ensures ∙ wrong-of-made _ (rows-are (at-rows c)) (oxygen-is (at-rows c)))
 
 fractions-wrong-requires : tie.Need-fractions-wrong-requires
 fractions-wrong-requires c κs = search needs
@@ -59,8 +73,10 @@ returns-2 c =
     let outside = sym (at-figures .figures-wrong .ensures) ∙ at-test .if2 .taken in
     rw (number-two _ (fractions-right (at-figures .before)) outside) (c .refused2 .ensures)
 
-matrix-of-requires : tie.Need-matrix-of-requires
-matrix-of-requires c κs = ranged _ (fractions-right (c .before .before)) (figures-right c)
+fill-rows-requires : tie.Need-fill-rows-requires
+fill-rows-requires c κs =
+    let at = c .before .before in
+    ranged _ (fractions-right (at .before .before)) (figures-right at)
 
 rows-wrong-requires : tie.Need-rows-wrong-requires
 rows-wrong-requires c κs = search needs
@@ -73,18 +89,18 @@ returns-3 : tie.Need-returns-3
 unfolding rowsAnswer
 returns-3 c =
     let at-test = c .before in
-    let passed = at-matrix (at-test .before) .before in
+    let at = passed (at-rows (at-test .before)) in
     let not-met = rows-tested (at-test .before) ∙ at-test .if3 .taken in
-    rw (number-three _ (fractions-right (passed .before .before)) (figures-right passed) not-met) (c .refused3 .ensures)
+    rw (number-three _ (fractions-right (at .before .before)) (figures-right at) not-met) (c .refused3 .ensures)
 
 -- Accepted.
 returns-4 : tie.Need-returns-4
-unfolding rowsAnswer matrixOf
+unfolding rowsAnswer
 returns-4 c =
-    let made = at-matrix (c .before) in
-    let passed = made .before in
+    let filled = at-rows (c .before) in
+    let at = passed filled in
     let met = rows-tested (c .before) ∙ c .if3 .left in
-    rw (number-zero _ (fractions-right (passed .before .before)) (figures-right passed) met, made .matrix-of .ensures)
+    rw (number-zero _ (fractions-right (at .before .before)) (figures-right at) met, rows-are filled)
 
 pub rows-of-spec : {M : Type 1} → statement M
 rows-of-spec =
@@ -96,7 +112,7 @@ rows-of-spec =
     figures-wrong-requires
     refused-requires-2
     returns-2
-    matrix-of-requires
+    fill-rows-requires
     rows-wrong-requires
     refused-requires-3
     returns-3

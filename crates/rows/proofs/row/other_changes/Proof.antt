@@ -1,5 +1,5 @@
 -- `rows::row::other_changes` meets its contract: each operation fits, by the bounds of `InReleased`, `InKind`
--- and e. The expressions of the locals and of the result's fields have their names. No assumptions.
+-- and e. The expressions have their names in RowArithmetic.antt. No assumptions.
 use mathlib.Core.List.{[], _∷_}
 use lib.IntN.{pos}
 use Rattle.numeric.proofs.Expression.{Ex, v, #, _⊕_, _⊖_, _⊗_}
@@ -7,8 +7,9 @@ use Rattle.numeric.proofs.Fitting.{Bounded, all, _&_}
 use Rattle.numeric.proofs.Machine.{asked, ran}
 use Rattle.rows.specs.Code.{othersOf}
 use Rattle.rows.proofs.RowArithmetic.{_·_, atoms, limits, atoms-bounded}
-use Rattle.rows.proofs.RowArithmetic.{carbon, hydrogen, nitrogen, phosphorus, nitrate, nitrite}
-use Rattle.rows.proofs.RowArithmetic.{nh4no2, no2no3, adsorbed, no3no2, no2n2, no3n2}
+use Rattle.rows.proofs.RowArithmetic.{hydrogen, nitrogen, phosphorus, adsorbed, no3no2, no2n2, no3n2}
+use Rattle.rows.proofs.RowArithmetic.{freed, toNitrate, toNitrite, nh4Oxidised, no2Oxidised, moved, bicarbonate}
+use Rattle.rows.proofs.RowArithmetic.{nh4Change, no2Change, no3Change, hpo4Change, o2Change, hChange, h2oChange, n2Change}
 use Rattle.rows.proofs.row.other_changes.Statement.{statement}
 use Rattle.rows.proofs.row.other_changes.Tie as tie
 
@@ -23,223 +24,167 @@ known :
     Bounded (atoms (start c .args .r) (start c .args .k) (start c .args .e ∷ [])) (limits (1000000000000 ∷ []))
 known c = let pre = start c .pre in atoms-bounded (pre .0) (pre .1) (pre .2 & all)
 
--- The locals.
 abbrev e : Ex
 e = v 13
 
-abbrev a : Ex
-a = 22320 · nitrogen
-
-abbrev a3 : Ex
-a3 = a ⊗ nitrate
-
-abbrev a2 : Ex
-a2 = a ⊗ nitrite
-
-abbrev m7 : Ex
-m7 = 22320 · nh4no2
-
-abbrev m9 : Ex
-m9 = 22320 · no2no3
-
-abbrev moved : Ex
-moved = a3 ⊕ a2 ⊕ m7
-
-abbrev e4 : Ex
-e4 = e ⊗ no3no2
-
-abbrev e5 : Ex
-e5 = e ⊗ no2n2
-
-abbrev e6 : Ex
-e6 = e ⊗ no3n2
-
-abbrev hco3 : Ex
-hco3 = 26040 · carbon
-
--- The fields of the result.
-abbrev nh4 : Ex
-nh4 = a ⊖ moved
-
-abbrev no2 : Ex
-no2 = a2 ⊕ m7 ⊖ m9 ⊖ 30 · e4 ⊕ 20 · e5
-
-abbrev no3 : Ex
-no3 = a3 ⊕ m9 ⊕ 30 · e4 ⊕ 12 · e6
-
-abbrev hpo4 : Ex
-hpo4 = 10080 · phosphorus ⊖ adsorbed
-
-abbrev o2 : Ex
-o2 = 15 · (e ⊖ e4 ⊖ e5 ⊖ e6)
-
-abbrev h : Ex
-h = hco3 ⊕ 20160 · phosphorus ⊖ a ⊕ 2 · moved ⊕ 20 · e5 ⊕ 12 · e6
-
-abbrev h2o : Ex
-h2o = 156240 · hydrogen ⊖ hco3 ⊖ 33480 · nitrogen ⊖ 15120 · phosphorus ⊕ moved ⊖ 10 · e5 ⊖ 6 · e6
-
-abbrev n2 : Ex
-n2 = # (pos 0) ⊖ 10 · e5 ⊖ 6 · e6
-
 mul-a : tie.Need-mul-a
-mul-a c = asked (known c) a tt
+mul-a c = asked (known c) freed tt
 
 mul-a3 : tie.Need-mul-a3
-mul-a3 c = asked (known c) a3 tt
+mul-a3 c = asked (known c) toNitrate tt
 
 mul-a2 : tie.Need-mul-a2
-mul-a2 c = asked (known c) a2 tt
+mul-a2 c = asked (known c) toNitrite tt
 
 mul-m7 : tie.Need-mul-m7
-mul-m7 c = asked (known c) m7 tt
+mul-m7 c = asked (known c) nh4Oxidised tt
 
 mul-m9 : tie.Need-mul-m9
-mul-m9 c = asked (known c) m9 tt
+mul-m9 c = asked (known c) no2Oxidised tt
 
 add-moved : tie.Need-add-moved
-add-moved c = asked (known c) (a3 ⊕ a2) tt
+add-moved c = asked (known c) (toNitrate ⊕ toNitrite) tt
 
 add-moved-2 : tie.Need-add-moved-2
 add-moved-2 c = asked (known c) moved tt
 
 mul-e4 : tie.Need-mul-e4
-mul-e4 c = asked (known c) e4 tt
+mul-e4 c = asked (known c) (e ⊗ no3no2) tt
 
 mul-e5 : tie.Need-mul-e5
-mul-e5 c = asked (known c) e5 tt
+mul-e5 c = asked (known c) (e ⊗ no2n2) tt
 
 mul-e6 : tie.Need-mul-e6
-mul-e6 c = asked (known c) e6 tt
+mul-e6 c = asked (known c) (e ⊗ no3n2) tt
 
 mul-hco3 : tie.Need-mul-hco3
-mul-hco3 c = asked (known c) hco3 tt
+mul-hco3 c = asked (known c) bicarbonate tt
 
 sub-t26 : tie.Need-sub-t26
-sub-t26 c = asked (known c) nh4 tt
+sub-t26 c = asked (known c) nh4Change tt
 
 add-t27 : tie.Need-add-t27
-add-t27 c = asked (known c) (a2 ⊕ m7) tt
+add-t27 c = asked (known c) (toNitrite ⊕ nh4Oxidised) tt
 
 sub-t28 : tie.Need-sub-t28
-sub-t28 c = asked (known c) (a2 ⊕ m7 ⊖ m9) tt
+sub-t28 c = asked (known c) (toNitrite ⊕ nh4Oxidised ⊖ no2Oxidised) tt
 
 mul-t29 : tie.Need-mul-t29
-mul-t29 c = asked (known c) (30 · e4) tt
+mul-t29 c = asked (known c) (30 · (e ⊗ no3no2)) tt
 
 sub-t30 : tie.Need-sub-t30
-sub-t30 c = asked (known c) (a2 ⊕ m7 ⊖ m9 ⊖ 30 · e4) tt
+sub-t30 c = asked (known c) (toNitrite ⊕ nh4Oxidised ⊖ no2Oxidised ⊖ 30 · (e ⊗ no3no2)) tt
 
 mul-t31 : tie.Need-mul-t31
-mul-t31 c = asked (known c) (20 · e5) tt
+mul-t31 c = asked (known c) (20 · (e ⊗ no2n2)) tt
 
 add-t32 : tie.Need-add-t32
-add-t32 c = asked (known c) no2 tt
+add-t32 c = asked (known c) (no2Change e) tt
 
 add-t33 : tie.Need-add-t33
-add-t33 c = asked (known c) (a3 ⊕ m9) tt
+add-t33 c = asked (known c) (toNitrate ⊕ no2Oxidised) tt
 
 mul-t34 : tie.Need-mul-t34
-mul-t34 c = asked (known c) (30 · e4) tt
+mul-t34 c = asked (known c) (30 · (e ⊗ no3no2)) tt
 
 add-t35 : tie.Need-add-t35
-add-t35 c = asked (known c) (a3 ⊕ m9 ⊕ 30 · e4) tt
+add-t35 c = asked (known c) (toNitrate ⊕ no2Oxidised ⊕ 30 · (e ⊗ no3no2)) tt
 
 mul-t36 : tie.Need-mul-t36
-mul-t36 c = asked (known c) (12 · e6) tt
+mul-t36 c = asked (known c) (12 · (e ⊗ no3n2)) tt
 
 add-t37 : tie.Need-add-t37
-add-t37 c = asked (known c) no3 tt
+add-t37 c = asked (known c) (no3Change e) tt
 
 mul-t38 : tie.Need-mul-t38
 mul-t38 c = asked (known c) (10080 · phosphorus) tt
 
 sub-t39 : tie.Need-sub-t39
-sub-t39 c = asked (known c) hpo4 tt
+sub-t39 c = asked (known c) hpo4Change tt
 
 sub-t40 : tie.Need-sub-t40
-sub-t40 c = asked (known c) (e ⊖ e4) tt
+sub-t40 c = asked (known c) (e ⊖ (e ⊗ no3no2)) tt
 
 sub-t41 : tie.Need-sub-t41
-sub-t41 c = asked (known c) (e ⊖ e4 ⊖ e5) tt
+sub-t41 c = asked (known c) (e ⊖ (e ⊗ no3no2) ⊖ (e ⊗ no2n2)) tt
 
 sub-t42 : tie.Need-sub-t42
-sub-t42 c = asked (known c) (e ⊖ e4 ⊖ e5 ⊖ e6) tt
+sub-t42 c = asked (known c) (e ⊖ (e ⊗ no3no2) ⊖ (e ⊗ no2n2) ⊖ (e ⊗ no3n2)) tt
 
 mul-t43 : tie.Need-mul-t43
-mul-t43 c = asked (known c) o2 tt
+mul-t43 c = asked (known c) (o2Change e) tt
 
 mul-t44 : tie.Need-mul-t44
 mul-t44 c = asked (known c) (20160 · phosphorus) tt
 
 add-t45 : tie.Need-add-t45
-add-t45 c = asked (known c) (hco3 ⊕ 20160 · phosphorus) tt
+add-t45 c = asked (known c) (bicarbonate ⊕ 20160 · phosphorus) tt
 
 sub-t46 : tie.Need-sub-t46
-sub-t46 c = asked (known c) (hco3 ⊕ 20160 · phosphorus ⊖ a) tt
+sub-t46 c = asked (known c) (bicarbonate ⊕ 20160 · phosphorus ⊖ freed) tt
 
 mul-t47 : tie.Need-mul-t47
 mul-t47 c = asked (known c) (2 · moved) tt
 
 add-t48 : tie.Need-add-t48
-add-t48 c = asked (known c) (hco3 ⊕ 20160 · phosphorus ⊖ a ⊕ 2 · moved) tt
+add-t48 c = asked (known c) (bicarbonate ⊕ 20160 · phosphorus ⊖ freed ⊕ 2 · moved) tt
 
 mul-t49 : tie.Need-mul-t49
-mul-t49 c = asked (known c) (20 · e5) tt
+mul-t49 c = asked (known c) (20 · (e ⊗ no2n2)) tt
 
 add-t50 : tie.Need-add-t50
-add-t50 c = asked (known c) (hco3 ⊕ 20160 · phosphorus ⊖ a ⊕ 2 · moved ⊕ 20 · e5) tt
+add-t50 c = asked (known c) (bicarbonate ⊕ 20160 · phosphorus ⊖ freed ⊕ 2 · moved ⊕ 20 · (e ⊗ no2n2)) tt
 
 mul-t51 : tie.Need-mul-t51
-mul-t51 c = asked (known c) (12 · e6) tt
+mul-t51 c = asked (known c) (12 · (e ⊗ no3n2)) tt
 
 add-t52 : tie.Need-add-t52
-add-t52 c = asked (known c) h tt
+add-t52 c = asked (known c) (hChange e) tt
 
 mul-t53 : tie.Need-mul-t53
 mul-t53 c = asked (known c) (156240 · hydrogen) tt
 
 sub-t54 : tie.Need-sub-t54
-sub-t54 c = asked (known c) (156240 · hydrogen ⊖ hco3) tt
+sub-t54 c = asked (known c) (156240 · hydrogen ⊖ bicarbonate) tt
 
 mul-t55 : tie.Need-mul-t55
 mul-t55 c = asked (known c) (33480 · nitrogen) tt
 
 sub-t56 : tie.Need-sub-t56
-sub-t56 c = asked (known c) (156240 · hydrogen ⊖ hco3 ⊖ 33480 · nitrogen) tt
+sub-t56 c = asked (known c) (156240 · hydrogen ⊖ bicarbonate ⊖ 33480 · nitrogen) tt
 
 mul-t57 : tie.Need-mul-t57
 mul-t57 c = asked (known c) (15120 · phosphorus) tt
 
 sub-t58 : tie.Need-sub-t58
-sub-t58 c = asked (known c) (156240 · hydrogen ⊖ hco3 ⊖ 33480 · nitrogen ⊖ 15120 · phosphorus) tt
+sub-t58 c = asked (known c) (156240 · hydrogen ⊖ bicarbonate ⊖ 33480 · nitrogen ⊖ 15120 · phosphorus) tt
 
 add-t59 : tie.Need-add-t59
-add-t59 c = asked (known c) (156240 · hydrogen ⊖ hco3 ⊖ 33480 · nitrogen ⊖ 15120 · phosphorus ⊕ moved) tt
+add-t59 c = asked (known c) (156240 · hydrogen ⊖ bicarbonate ⊖ 33480 · nitrogen ⊖ 15120 · phosphorus ⊕ moved) tt
 
 mul-t60 : tie.Need-mul-t60
-mul-t60 c = asked (known c) (10 · e5) tt
+mul-t60 c = asked (known c) (10 · (e ⊗ no2n2)) tt
 
 sub-t61 : tie.Need-sub-t61
-sub-t61 c = asked (known c) (156240 · hydrogen ⊖ hco3 ⊖ 33480 · nitrogen ⊖ 15120 · phosphorus ⊕ moved ⊖ 10 · e5) tt
+sub-t61 c = asked (known c) (156240 · hydrogen ⊖ bicarbonate ⊖ 33480 · nitrogen ⊖ 15120 · phosphorus ⊕ moved ⊖ 10 · (e ⊗ no2n2)) tt
 
 mul-t62 : tie.Need-mul-t62
-mul-t62 c = asked (known c) (6 · e6) tt
+mul-t62 c = asked (known c) (6 · (e ⊗ no3n2)) tt
 
 sub-t63 : tie.Need-sub-t63
-sub-t63 c = asked (known c) h2o tt
+sub-t63 c = asked (known c) (h2oChange e) tt
 
 mul-t64 : tie.Need-mul-t64
-mul-t64 c = asked (known c) (10 · e5) tt
+mul-t64 c = asked (known c) (10 · (e ⊗ no2n2)) tt
 
 sub-t65 : tie.Need-sub-t65
-sub-t65 c = asked (known c) (# (pos 0) ⊖ 10 · e5) tt
+sub-t65 c = asked (known c) (# (pos 0) ⊖ 10 · (e ⊗ no2n2)) tt
 
 mul-t66 : tie.Need-mul-t66
-mul-t66 c = asked (known c) (6 · e6) tt
+mul-t66 c = asked (known c) (6 · (e ⊗ no3n2)) tt
 
 sub-t67 : tie.Need-sub-t67
-sub-t67 c = asked (known c) n2 tt
+sub-t67 c = asked (known c) (n2Change e) tt
 
 mul-t68 : tie.Need-mul-t68
 mul-t68 c = asked (known c) (15 · e) tt
@@ -248,16 +193,16 @@ returns : tie.Need-returns
 unfolding othersOf
 returns c = λ i.
     record {
-      nh4 = ran (known c) nh4 tt i;
-      no2 = ran (known c) no2 tt i;
-      no3 = ran (known c) no3 tt i;
-      hpo4 = ran (known c) hpo4 tt i;
-      o2 = ran (known c) o2 tt i;
-      hco3 = ran (known c) hco3 tt i;
-      h = ran (known c) h tt i;
+      nh4 = ran (known c) nh4Change tt i;
+      no2 = ran (known c) (no2Change e) tt i;
+      no3 = ran (known c) (no3Change e) tt i;
+      hpo4 = ran (known c) hpo4Change tt i;
+      o2 = ran (known c) (o2Change e) tt i;
+      hco3 = ran (known c) bicarbonate tt i;
+      h = ran (known c) (hChange e) tt i;
       xp = ran (known c) adsorbed tt i;
-      h2o = ran (known c) h2o tt i;
-      n2 = ran (known c) n2 tt i;
+      h2o = ran (known c) (h2oChange e) tt i;
+      n2 = ran (known c) (n2Change e) tt i;
       e = ran (known c) (15 · e) tt i;
     }
 

@@ -1,9 +1,9 @@
 -- `rows::row::released_by` meets its contract: each field is what `released_part` ensures. No assumptions.
-use Prim.Native.Nat.{ℕ}
-use borrow.Author.Needs.{needs}
-use lib.IntN.{ℤ}
-use Rattle.rows.specs.Code.{releasedPart, releasedBy}
+use mathlib.Core.Path.{_∙_}
+use mir.Facts.{toZ-ofZ}
+use Rattle.rows.specs.Code.{releasedBy}
 use Rattle.numeric.proofs.Machine.{result-is}
+use borrow.Author.Needs.{needs}
 use Rattle.rows.proofs.row.released_by.Statement.{statement}
 use Rattle.rows.proofs.row.released_by.Tie as tie
 
@@ -30,15 +30,16 @@ returns c =
     let after2 = after3 .before in
     let after1 = after2 .before in
     let a = after1 .before .args in
-    let part : ℕ → ℤ = λ e. releasedPart (a .fractions .now) (a .changes .now) (a .p) (a .i) (a .j) e in
-    λ t.
+    let fits = after1 .before .fits in
+    (λ t.
     record {
-      c = result-is (part 0) (after1 .released-part .ensures) (after1 .released-part .ok) t;
-      h = result-is (part 1) (after2 .released-part2 .ensures) (after2 .released-part2 .ok) t;
-      o = result-is (part 2) (after3 .released-part3 .ensures) (after3 .released-part3 .ok) t;
-      n = result-is (part 3) (after4 .released-part4 .ensures) (after4 .released-part4 .ok) t;
-      p = result-is (part 4) (c .released-part5 .ensures) (c .released-part5 .ok) t;
-    }
+      c = result-is _ (after1 .released-part .ensures) (after1 .released-part .ok) t;
+      h = result-is _ (after2 .released-part2 .ensures) (after2 .released-part2 .ok) t;
+      o = result-is _ (after3 .released-part3 .ensures) (after3 .released-part3 .ok) t;
+      n = result-is _ (after4 .released-part4 .ensures) (after4 .released-part4 .ok) t;
+      p = result-is _ (c .released-part5 .ensures) (c .released-part5 .ok) t;
+    })
+    ∙ (λ t. releasedBy (toZ-ofZ (fits .x) t) (a .a) (toZ-ofZ (fits .y) t) (a .b) (toZ-ofZ (fits .z) t) (a .c))
 
 pub released-by-spec : {M : Type 1} → statement M
 released-by-spec =

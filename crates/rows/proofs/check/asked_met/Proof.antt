@@ -1,4 +1,4 @@
--- `matrix::asked_met` meets its contract: the tests on `asked` decide the case of the definition, and the numbers that
+-- `rows::check::asked_met` meets its contract: the tests on `asked` decide the case of the definition, and the numbers that
 -- are compared are elements that were read. No assumptions.
 use Prim.Native.Nat.{ℕ, _+_, _*_}
 use lib.ListN.{getD}
@@ -7,8 +7,8 @@ use borrow.Author.Needs.{needs}
 use borrow.Author.Tests.{eq-eqb, ne-eqb}
 use Rattle.rows.specs.Code.{askedOf}
 use Rattle.numeric.proofs.Machine.{kept-is}
-use Rattle.rows.proofs.matrix.asked_met.Statement.{statement}
-use Rattle.rows.proofs.matrix.asked_met.Tie as tie
+use Rattle.rows.proofs.check.asked_met.Statement.{statement}
+use Rattle.rows.proofs.check.asked_met.Tie as tie
 
 mul-b : tie.Need-mul-b
 mul-b c = search needs

@@ -1,4 +1,4 @@
--- `matrix::rows_wrong` meets its contract. The loop's invariant: every process before `p` has what is asked of it; one
+-- `rows::check::rows_wrong` meets its contract. The loop's invariant: every process before `p` has what is asked of it; one
 -- that has not ends the loop with `true`. The measure is what is left of the processes. No assumptions.
 use Prim.Native.Nat.{_≤_, _-_}
 use mathlib.Core.Bool.{true, not}
@@ -8,8 +8,8 @@ use lib.ListN.{getD}
 use Rattle.numeric.specs.Check.{every}
 use Rattle.numeric.proofs.CheckLaws.{every-none, every-more, every-fails}
 use Rattle.rows.specs.Code.{askedTable, askedOf, wrongOf}
-use Rattle.rows.proofs.matrix.rows_wrong.Statement.{statement}
-use Rattle.rows.proofs.matrix.rows_wrong.Tie as tie
+use Rattle.rows.proofs.check.rows_wrong.Statement.{statement}
+use Rattle.rows.proofs.check.rows_wrong.Tie as tie
 
 abbrev Inv-loop : tie.InvT-loop
 Inv-loop entries oxygen asked p₀ p =

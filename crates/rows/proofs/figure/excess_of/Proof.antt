@@ -1,9 +1,9 @@
--- `rows::table::excess_of` meets its contract: yield × fraction is at most 100,000. No assumptions.
+-- `rows::figure::excess_of` meets its contract: yield × fraction is at most 100,000. No assumptions.
 use native.Mathlib.Omega.{arith}
 use native.Mathlib.Nat.{mul-le-mul}
 use borrow.Author.Needs.{needs}
-use Rattle.rows.proofs.table.excess_of.Statement.{statement}
-use Rattle.rows.proofs.table.excess_of.Tie as tie
+use Rattle.rows.proofs.figure.excess_of.Statement.{statement}
+use Rattle.rows.proofs.figure.excess_of.Tie as tie
 
 mul-wide : tie.Need-mul-wide
 mul-wide c = omega (arith, mul-le-mul (c .pre .0) (c .pre .1))

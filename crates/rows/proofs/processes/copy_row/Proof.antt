@@ -1,4 +1,4 @@
--- `rows::matrix::copy_row` meets its contract. The loop's invariant: the entries are those of the start, with
+-- `rows::processes::copy_row` meets its contract. The loop's invariant: the entries are those of the start, with
 -- the first s of the row stored. The measure is what is left of the row. No assumptions.
 use Prim.Native.Nat.{ℕ, _-_, _≤_}
 use native.Mathlib.Omega.{arith}
@@ -9,8 +9,8 @@ use lib.ListN.{getD}
 use mir.Facts.{toZ-ofZ}
 use Rattle.numeric.specs.Table.{run}
 use Rattle.numeric.proofs.Filling.{run-none, run-more}
-use Rattle.rows.proofs.matrix.copy_row.Statement.{statement}
-use Rattle.rows.proofs.matrix.copy_row.Tie as tie
+use Rattle.rows.proofs.processes.copy_row.Statement.{statement}
+use Rattle.rows.proofs.processes.copy_row.Tie as tie
 
 abbrev Inv-loop : tie.InvT-loop
 Inv-loop entries₀ at row s₀ entries s = (s ≤ 18) × (entries ≡ run entries₀ at s (λ k. getD row k (pos 0)))

@@ -1,0 +1,53 @@
+// Check 3, on the rows of a set and E of each process.
+ghost use mathlib.Core.Path.{_≡_};
+ghost use Prim.Native.Nat.{_<_};
+ghost use lib.IntN.{pos};
+ghost use lib.Signed.{leZ};
+ghost use Rattle.rows.specs.Code.{askedOf, wrongOf};
+use numeric::both;
+use stoichiometry::PROCESSES;
+use stoichiometry::SUBSTANCES;
+
+// What check 3 asks: 1 that E is below zero, 2 that no NH4, HPO4, O2 or HCO3 is taken up, 0 nothing.
+const ASKED: [u8; 17] = [1, 1, 1, 1, 1, 1, 1, 1, 1, 1, 0, 0, 1, 2, 2, 0, 0];
+
+fn not_taken_up(entry: i64) -> bool
+    ensures { λ r. ⌜ r ≡ leZ (pos 0) entry ⌝ }
+{
+    0 <= entry
+}
+
+// The process at p has what check 3 asks of it.
+fn asked_met(entries: &[i64; 306], oxygen: &[i64; 17], p: usize, asked: u8) -> bool
+    requires { ⌜ p < 17 ⌝ }
+    ensures { λ r. ⌜ r ≡ askedOf (now (entries .entry)) (now (oxygen .entry)) p asked ⌝ }
+{
+    let b = p * SUBSTANCES;
+    if asked == 1 {
+        oxygen[p] < 0
+    } else if asked == 2 {
+        let nitrogen = not_taken_up(entries[b + 2]);
+        let phosphate = not_taken_up(entries[b + 5]);
+        let oxygen = not_taken_up(entries[b + 6]);
+        let carbonate = not_taken_up(entries[b + 7]);
+        both(both(both(nitrogen, phosphate), oxygen), carbonate)
+    } else {
+        true
+    }
+}
+
+// Check 3: some process has not what is asked of it.
+pub(crate) fn rows_wrong(entries: &[i64; 306], oxygen: &[i64; 17]) -> bool
+    ensures { λ r. ⌜ r ≡ wrongOf (now (entries .entry)) (now (oxygen .entry)) ⌝ }
+{
+    let asked = ASKED;
+    let mut p = 0;
+    while p < PROCESSES {
+        if asked_met(entries, oxygen, p, asked[p]) {
+            p += 1;
+        } else {
+            return true;
+        }
+    }
+    false
+}
