@@ -1,6 +1,6 @@
 pub mod Rivers
 pub mod Load
 pub mod Flow
-pub mod Sizes
+pub mod Stages
 pub mod Air
 pub mod Cells

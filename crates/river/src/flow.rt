@@ -1,16 +1,13 @@
 // Flow: a part of each amount passes from its cell to the next, and from the last cell out of the river.
 ghost use mathlib.Core.Path.{_≡_};
-ghost use Prim.Native.Nat.{ℕ, _≤_, _*_, _/_};
-ghost use lib.ListN.{replicate};
-ghost use lib.IntN.{pos, natAbs, _+ℤ_, _-ℤ_};
-ghost use Rattle.numeric.specs.Table.{tab};
+ghost use Prim.Native.Nat.{_≤_, _*_, _/_};
+ghost use lib.ListN.{length};
+ghost use lib.IntN.{natAbs, _+ℤ_, _-ℤ_};
 ghost use Rattle.stoichiometry.specs.Substances.{substances};
 ghost use Rattle.river.specs.Rivers.{mostCells};
-ghost use Rattle.river.specs.Flow.{passing, leftOf, cameAt, movedOf};
-ghost use Rattle.river.specs.Sizes.{largest, SmallAmounts};
+ghost use Rattle.river.specs.Flow.{passing, leftOf, movedOf};
+ghost use Rattle.river.specs.Stages.{largest, AmountsWithin, SmallAmounts, stayedOf, joinedOf};
 use crate::AMOUNTS;
-use crate::Flowed;
-use crate::River;
 use stoichiometry::SUBSTANCES;
 
 // Parts are ten-thousandths.
@@ -49,55 +46,50 @@ pub(crate) fn left_all(amounts: &[i64; AMOUNTS], part: u64) -> [i64; AMOUNTS]
     left
 }
 
-// What comes into each cell: what left the one above it. Nothing comes into the first, nor beyond the last.
-fn came_all(cells: usize, left: &[i64; AMOUNTS]) -> [i64; AMOUNTS]
-    requires { ⌜ (1 ≤ cells) × (cells ≤ mostCells) ⌝ }
-    ensures { λ r. ⌜ r ≡ tab (mostCells * substances) (λ (k : ℕ). cameAt cells (now (left .entry)) k) ⌝ }
+fn less(amount: i64, left: i64) -> i64
+    requires { ⌜ (natAbs amount ≤ largest) × (natAbs left ≤ largest) ⌝ }
+    ensures { λ r. ⌜ r ≡ amount -ℤ left ⌝ }
 {
-    let end = (cells - 1) * SUBSTANCES;
-    let mut came = [0; AMOUNTS];
-    let mut k = 0;
-    while k < end {
-        let x = left[k];
-        came[SUBSTANCES + k] = x;
-        k += 1;
-    }
-    came
+    amount - left
 }
 
-fn moved(amount: i64, left: i64, came: i64) -> i64
-    requires { ⌜ (natAbs amount ≤ largest) × (natAbs left ≤ largest) × (natAbs came ≤ largest) ⌝ }
-    ensures { λ r. ⌜ r ≡ amount -ℤ left +ℤ came ⌝ }
+// What left is taken from each amount.
+fn take_left(amounts: &mut [i64; AMOUNTS], left: &[i64; AMOUNTS])
+    requires { ⌜ SmallAmounts (now amounts) × SmallAmounts (now left) ⌝ }
+    ensures { λ _. ⌜ now (amounts .exit) ≡ stayedOf (now (amounts .entry)) (now (left .entry)) ⌝ }
 {
-    amount - left + came
+    let mut k = 0;
+    while k < AMOUNTS {
+        amounts[k] = less(amounts[k], left[k]);
+        k += 1;
+    }
+}
+
+fn with(stayed: i64, came: i64) -> i64
+    requires { ⌜ (natAbs stayed ≤ 2 * largest) × (natAbs came ≤ largest) ⌝ }
+    ensures { λ r. ⌜ r ≡ stayed +ℤ came ⌝ }
+{
+    stayed + came
+}
+
+// What left a cell comes into the next. Nothing comes into the first cell, nor beyond the last.
+fn add_came(cells: usize, amounts: &mut [i64; AMOUNTS], left: &[i64; AMOUNTS])
+    requires { ⌜ (1 ≤ cells) × (cells ≤ mostCells) × AmountsWithin (2 * largest) (now amounts) × SmallAmounts (now left) ⌝ }
+    ensures { λ _. ⌜ now (amounts .exit) ≡ joinedOf cells (now (amounts .entry)) (now (left .entry)) ⌝ }
+{
+    let end = (cells - 1) * SUBSTANCES;
+    let mut k = 0;
+    while k < end {
+        amounts[SUBSTANCES + k] = with(amounts[SUBSTANCES + k], left[k]);
+        k += 1;
+    }
 }
 
 // The amounts after: what stayed and what came.
-pub(crate) fn moved_all(
-    cells: usize,
-    amounts: &[i64; AMOUNTS],
-    left: &[i64; AMOUNTS],
-) -> [i64; AMOUNTS]
-    requires { ⌜ (1 ≤ cells) × (cells ≤ mostCells) × SmallAmounts (now amounts) × SmallAmounts (now left) ⌝ }
-    ensures { λ r. ⌜ r ≡ movedOf cells (now (amounts .entry)) (now (left .entry)) ⌝ }
+pub(crate) fn move_amounts(cells: usize, amounts: &mut [i64; AMOUNTS], left: &[i64; AMOUNTS])
+    requires { ⌜ (1 ≤ cells) × (cells ≤ mostCells) × (length (now amounts) ≡ mostCells * substances) × SmallAmounts (now amounts) × SmallAmounts (now left) ⌝ }
+    ensures { λ _. ⌜ now (amounts .exit) ≡ movedOf cells (now (amounts .entry)) (now (left .entry)) ⌝ }
 {
-    let came = came_all(cells, left);
-    let mut after = [0; AMOUNTS];
-    let mut k = 0;
-    while k < AMOUNTS {
-        after[k] = moved(amounts[k], left[k], came[k]);
-        k += 1;
-    }
-    after
-}
-
-// The number, the river handed in, and zeros.
-pub(crate) fn refused_flow(number: u32, river: River) -> Flowed
-    ensures { λ r. ⌜ r ≡ record { number = number; river = river; left = replicate (mostCells * substances) (pos 0) } ⌝ }
-{
-    Flowed {
-        number,
-        river,
-        left: [0; AMOUNTS],
-    }
+    take_left(amounts, left);
+    add_came(cells, amounts, left);
 }

@@ -15,8 +15,7 @@ use crate::check::amounts_right;
 use crate::check::carries_right;
 use crate::check::cells_fit;
 use crate::flow::left_all;
-use crate::flow::moved_all;
-use crate::flow::refused_flow;
+use crate::flow::move_amounts;
 use crate::load::amount_at;
 use crate::load::cell_exists;
 use crate::load::set_amount;
@@ -213,26 +212,27 @@ pub fn load_river(river: River, cell: u32, substance: u32, number: i64) -> Chang
 pub fn flow_river(river: River, part: u32) -> Flowed
     ensures answer { λ r. ⌜ r ≡ flowAnswer river part ⌝ }
 {
-    if river_wrong(river) {
-        return refused_flow(4, river);
+    // The answer's river is tested and changed in place, so that it is copied once.
+    let mut answer = Flowed {
+        number: 0,
+        river,
+        left: [0; AMOUNTS],
+    };
+    let cells = answer.river.cells;
+    let amounts = amounts_right(cells, &answer.river.amounts);
+    let carries = carries_right(cells, &answer.river.carries);
+    if !both(amounts, carries) {
+        answer.number = 4;
+        return answer;
     }
     if part > River::PART_MOST {
-        return refused_flow(6, river);
+        answer.number = 6;
+        return answer;
     }
-    let cells = river.cells;
-    let amounts = river.amounts;
-    let carries = river.carries;
-    let left = left_all(&amounts, part as u64);
-    let after = moved_all(cells as usize, &amounts, &left);
-    Flowed {
-        number: 0,
-        river: River {
-            cells,
-            amounts: after,
-            carries,
-        },
-        left,
-    }
+    let left = left_all(&answer.river.amounts, part as u64);
+    move_amounts(cells as usize, &mut answer.river.amounts, &left);
+    answer.left = left;
+    answer
 }
 
 // Exchange of O2 between a cell, counted from 1, and the air. Answers the river with the cell's O2 changed, and the

@@ -16,7 +16,7 @@ use Rattle.numeric.proofs.Bounds.{fits-abs, abs-neg}
 use Rattle.numeric.proofs.Comparison.{bits-lt, bits-nlt}
 use Rattle.numeric.proofs.Fitting.{Bounded, _&_, all}
 use Rattle.numeric.proofs.Machine.{asked, ran}
-use Rattle.river.specs.Sizes.{largest}
+use Rattle.river.specs.Stages.{largest}
 use Rattle.river.proofs.FlowLaws.{share, share-le, passing-below, passing-above}
 use Rattle.river.proofs.flow.passed.Statement.{statement}
 use Rattle.river.proofs.flow.passed.Tie as tie
