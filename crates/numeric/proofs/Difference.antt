@@ -93,9 +93,6 @@ ext (negsuc a) (negsuc b) e = ap negsuc (omega arith)
 pub rep-eq : {x y : ℤ} {p n q m : ℕ} → Rep x p n → Rep y q m → p + m ≡ q + n → x ≡ y
 rep-eq {x} {y} r s e = ext x y (omega (arith, r .is, s .is))
 
-pub eq-rep : {x y : ℤ} {p n q m : ℕ} → Rep x p n → Rep y q m → x ≡ y → p + m ≡ q + n
-eq-rep {x} {y} r s e = omega (arith, r .is, s .is, ap up e, ap dn e)
-
 le-to : (x y : ℤ) → T (leZ x y) → up x + dn y ≤ up y + dn x
 le-to (pos a) (pos b) t = omega (arith, leb→le a b t)
 le-to (pos a) (negsuc b) t = absurd t

@@ -1,6 +1,6 @@
 -- Expressions over integers, and `omega` for them: `equal`, `at-most` and `below` prove `≡`, `_≤ℤ_` and `_<ℤ_` of two
--- expressions from a statement on ℕ, which `omega arith` proves; `equal-of`, `at-most-of` and `below-of` go the other
--- way, for facts. Identities without a hypothesis are shorter by `solve` (Ring.antt). No assumptions.
+-- expressions from a statement on ℕ, which `omega arith` proves; `at-most-of` and `below-of` go the other way, for
+-- facts. Identities without a hypothesis are shorter by `solve` (Ring.antt). No assumptions.
 use mathlib.Core.Path.{_≡_}
 use mathlib.Core.Bool.{Bool, true, false, not}
 use mathlib.Core.List.{List}

@@ -1,12 +1,9 @@
--- Laws of sums, products and the order of ℤ that lib.IntN and lib.Signed lack. No assumptions.
+-- Laws of sums and products in ℤ that lib.IntN lacks. No assumptions.
 use mathlib.Core.Path.{_≡_}
 use mathlib.Core.List.{[], _∷_}
-use Prim.Native.Nat.{ℕ}
 use native.Mathlib.Omega.{arith}
-use native.Mathlib.Nat.{mul-le-mul-left}
 use lib.IntN.{ℤ, pos, negℤ, _+ℤ_, _*ℤ_}
-use lib.Signed.{_≤ℤ_}
-use Rattle.numeric.proofs.Expression.{v, #, _⊕_, _⊗_, ⊝, equal, at-most, at-most-of}
+use Rattle.numeric.proofs.Expression.{v, #, _⊕_, _⊗_, ⊝, equal}
 
 pub *ℤ-assoc : (a b c : ℤ) → (a *ℤ b) *ℤ c ≡ a *ℤ (b *ℤ c)
 *ℤ-assoc a b c = equal (a ∷ b ∷ c ∷ []) (v 0 ⊗ v 1 ⊗ v 2) (v 0 ⊗ (v 1 ⊗ v 2)) (omega arith)
@@ -22,19 +19,3 @@ neg-*ℤ a b = equal (a ∷ b ∷ []) (⊝ (v 0) ⊗ v 1) (⊝ (v 0 ⊗ v 1)) (o
 
 pub one-*ℤ : (a : ℤ) → pos 1 *ℤ a ≡ a
 one-*ℤ a = equal (a ∷ []) (# (pos 1) ⊗ v 0) (v 0) (omega arith)
-
-pub ≤ℤ-trans : {a b c : ℤ} → a ≤ℤ b → b ≤ℤ c → a ≤ℤ c
-≤ℤ-trans {a} {b} {c} h k =
-    let env = a ∷ b ∷ c ∷ [] in
-    at-most env (v 0) (v 2) (omega (arith, at-most-of env (v 0) (v 1) h, at-most-of env (v 1) (v 2) k))
-
-pub +ℤ-mono : {a b c d : ℤ} → a ≤ℤ b → c ≤ℤ d → (a +ℤ c) ≤ℤ (b +ℤ d)
-+ℤ-mono {a} {b} {c} {d} h k =
-    let env = a ∷ b ∷ c ∷ d ∷ [] in
-    at-most env (v 0 ⊕ v 2) (v 1 ⊕ v 3) (omega (arith, at-most-of env (v 0) (v 1) h, at-most-of env (v 2) (v 3) k))
-
--- A factor that is a natural number keeps the order.
-pub *ℤ-mono : (n : ℕ) {a b : ℤ} → a ≤ℤ b → (pos n *ℤ a) ≤ℤ (pos n *ℤ b)
-*ℤ-mono n {a} {b} h =
-    let env = a ∷ b ∷ pos n ∷ [] in
-    at-most env (v 2 ⊗ v 0) (v 2 ⊗ v 1) (omega (arith, mul-le-mul-left n (at-most-of env (v 0) (v 1) h)))
