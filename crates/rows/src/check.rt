@@ -5,11 +5,12 @@ ghost use lib.IntN.{pos};
 ghost use lib.Signed.{leZ};
 ghost use Rattle.rows.specs.Code.{askedOf, wrongOf};
 use numeric::both;
+use stoichiometry::ENTRIES;
 use stoichiometry::PROCESSES;
 use stoichiometry::SUBSTANCES;
 
 // What check 3 asks: 1 that E is below zero, 2 that no NH4, HPO4, O2 or HCO3 is taken up, 0 nothing.
-const ASKED: [u8; 17] = [1, 1, 1, 1, 1, 1, 1, 1, 1, 1, 0, 0, 1, 2, 2, 0, 0];
+const ASKED: [u8; PROCESSES] = [1, 1, 1, 1, 1, 1, 1, 1, 1, 1, 0, 0, 1, 2, 2, 0, 0];
 
 fn not_taken_up(entry: i64) -> bool
     ensures { λ r. ⌜ r ≡ leZ (pos 0) entry ⌝ }
@@ -18,7 +19,7 @@ fn not_taken_up(entry: i64) -> bool
 }
 
 // The process at p has what check 3 asks of it.
-fn asked_met(entries: &[i64; 306], oxygen: &[i64; 17], p: usize, asked: u8) -> bool
+fn asked_met(entries: &[i64; ENTRIES], oxygen: &[i64; PROCESSES], p: usize, asked: u8) -> bool
     requires { ⌜ p < 17 ⌝ }
     ensures { λ r. ⌜ r ≡ askedOf (now (entries .entry)) (now (oxygen .entry)) p asked ⌝ }
 {
@@ -37,7 +38,7 @@ fn asked_met(entries: &[i64; 306], oxygen: &[i64; 17], p: usize, asked: u8) -> b
 }
 
 // Check 3: some process has not what is asked of it.
-pub(crate) fn rows_wrong(entries: &[i64; 306], oxygen: &[i64; 17]) -> bool
+pub(crate) fn rows_wrong(entries: &[i64; ENTRIES], oxygen: &[i64; PROCESSES]) -> bool
     ensures { λ r. ⌜ r ≡ wrongOf (now (entries .entry)) (now (oxygen .entry)) ⌝ }
 {
     let asked = ASKED;

@@ -12,10 +12,12 @@ use crate::row::Others;
 use crate::row::others_of;
 use crate::row::released_by;
 use crate::row::row;
+use stoichiometry::ENTRIES;
+use stoichiometry::PROCESSES;
 use stoichiometry::SUBSTANCES;
 use stoichiometry::Set;
 
-fn copy_row(entries: &mut [i64; 306], at: usize, row: &[i64; 18])
+fn copy_row(entries: &mut [i64; ENTRIES], at: usize, row: &[i64; SUBSTANCES])
     requires { ⌜ at + 18 ≤ 306 ⌝ }
     ensures { λ r. ⌜ now (entries .exit) ≡ run (now (entries .entry)) at 18 (λ s. getD (now (row .entry)) s (pos 0)) ⌝ }
 {
@@ -28,8 +30,8 @@ fn copy_row(entries: &mut [i64; 306], at: usize, row: &[i64; 18])
 
 // Stores a row and its E.
 fn put(
-    entries: &mut [i64; 306],
-    oxygen: &mut [i64; 17],
+    entries: &mut [i64; ENTRIES],
+    oxygen: &mut [i64; PROCESSES],
     p: usize,
     d: Others,
     ss: i64,
@@ -51,7 +53,7 @@ fn put(
 }
 
 // Processes 1 to 6: the growth of XH on SS and its loss, then both without oxygen.
-fn heterotrophs(set: Set, entries: &mut [i64; 306], oxygen: &mut [i64; 17])
+fn heterotrophs(set: Set, entries: &mut [i64; ENTRIES], oxygen: &mut [i64; PROCESSES])
     requires { ⌜ Ranged set ⌝ }
     ensures { λ r. ⌜ now (entries .exit) ≡ rowsFrom set 0 6 (now (entries .entry)) ⌝ }
     ensures { λ r. ⌜ now (oxygen .exit) ≡ oxygenFrom set 0 6 (now (oxygen .entry)) ⌝ }
@@ -80,7 +82,7 @@ fn heterotrophs(set: Set, entries: &mut [i64; 306], oxygen: &mut [i64; 17])
 }
 
 // Processes 7 to 10: the growth and the loss of XN1, then of XN2.
-fn nitrifiers(set: Set, entries: &mut [i64; 306], oxygen: &mut [i64; 17])
+fn nitrifiers(set: Set, entries: &mut [i64; ENTRIES], oxygen: &mut [i64; PROCESSES])
     requires { ⌜ Ranged set ⌝ }
     ensures { λ r. ⌜ now (entries .exit) ≡ rowsFrom set 6 4 (now (entries .entry)) ⌝ }
     ensures { λ r. ⌜ now (oxygen .exit) ≡ oxygenFrom set 6 4 (now (oxygen .entry)) ⌝ }
@@ -106,7 +108,7 @@ fn nitrifiers(set: Set, entries: &mut [i64; 306], oxygen: &mut [i64; 17])
 }
 
 // Processes 11 to 14: the growth of XALG on ammonium and on nitrate, its loss and its death.
-fn algae(set: Set, entries: &mut [i64; 306], oxygen: &mut [i64; 17])
+fn algae(set: Set, entries: &mut [i64; ENTRIES], oxygen: &mut [i64; PROCESSES])
     requires { ⌜ Ranged set ⌝ }
     ensures { λ r. ⌜ now (entries .exit) ≡ rowsFrom set 10 4 (now (entries .entry)) ⌝ }
     ensures { λ r. ⌜ now (oxygen .exit) ≡ oxygenFrom set 10 4 (now (oxygen .entry)) ⌝ }
@@ -131,7 +133,7 @@ fn algae(set: Set, entries: &mut [i64; 306], oxygen: &mut [i64; 17])
 }
 
 // Processes 15 to 17: hydrolysis, adsorption, desorption. The last two change no organic.
-fn rest(set: Set, entries: &mut [i64; 306], oxygen: &mut [i64; 17])
+fn rest(set: Set, entries: &mut [i64; ENTRIES], oxygen: &mut [i64; PROCESSES])
     requires { ⌜ Ranged set ⌝ }
     ensures { λ r. ⌜ now (entries .exit) ≡ rowsFrom set 14 3 (now (entries .entry)) ⌝ }
     ensures { λ r. ⌜ now (oxygen .exit) ≡ oxygenFrom set 14 3 (now (oxygen .entry)) ⌝ }
@@ -149,7 +151,7 @@ fn rest(set: Set, entries: &mut [i64; 306], oxygen: &mut [i64; 17])
 }
 
 // All rows of a set, and E of each process.
-pub(crate) fn fill_rows(set: Set, entries: &mut [i64; 306], oxygen: &mut [i64; 17])
+pub(crate) fn fill_rows(set: Set, entries: &mut [i64; ENTRIES], oxygen: &mut [i64; PROCESSES])
     requires { ⌜ Ranged set ⌝ }
     ensures { λ r. ⌜ now (entries .exit) ≡ rowsFrom set 0 17 (now (entries .entry)) ⌝ }
     ensures { λ r. ⌜ now (oxygen .exit) ≡ oxygenFrom set 0 17 (now (oxygen .entry)) ⌝ }

@@ -5,6 +5,7 @@ ghost use lib.IntN.{natAbs};
 ghost use Rattle.rows.specs.Code.{Thousandths, InReleased, InKind, releasedPart, releasedBy, kind, fifteenthOf, othersOf};
 ghost use Rattle.rows.specs.Code.{othersFrom, organicLine, rowList};
 use stoichiometry::Fractions;
+use stoichiometry::SUBSTANCES;
 
 // Elements that a row's organic changes release, thousandth-µg.
 pub(crate) struct Released {
@@ -173,7 +174,7 @@ pub(crate) fn row(
     xalg: i64,
     xs: i64,
     xi: i64,
-) -> [i64; 18]
+) -> [i64; SUBSTANCES]
     ensures { λ r. ⌜ r ≡ rowList (organicLine ss xh xn1 xn2 xalg xs xi) d ⌝ }
 {
     [
