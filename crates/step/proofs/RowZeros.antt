@@ -1,78 +1,69 @@
--- Entries that no set has: a substance is changed by some processes only, from the first to the end that Stepping.antt names.
--- One computed test of all entries, and the law that it gives. No assumptions.
-use Prim.Native.Nat.{ℕ, _+_, _*_, _-_, _/_, _%_, _≤_, _<_}
-use mathlib.Core.Bool.{Bool, true, false, cond, _&&_}
-use mathlib.Core.List.{List}
+-- Entries that no set has: a substance is changed by some processes only, those that Stepping.antt names. For each substance a
+-- column of zeros, computed but for NH4 and O2, whose changes cancel; then the law that the columns give. No assumptions.
+use Prim.Native.Nat.{ℕ, _+_, _*_, _/_, _<_}
+use mathlib.Core.Bool.{false, cond}
+use mathlib.Core.List.{List, [], _∷_}
 use mathlib.Core.Path.{_≡_, refl, sym, ap, _∙_}
 use native.Mathlib.Omega.{arith}
-use borrow.Author.Tests.{leb-true, lt-leb, le-ltb}
-use lib.Dec.{leb, ltb}
-use lib.IntN.{ℤ, pos, _+ℤ_, _*ℤ_, +ℤ-idr, *ℤ-zero}
+use native.Mathlib.Numerals.{add-one}
+use native.Mathlib.Nat.{zero-add}
+use lib.IntN.{ℤ, pos, _*ℤ_, +ℤ-idl, +ℤ-idr, +ℤ-invr, *ℤ-zero}
 use lib.ListN.{getD, replicate, getD-replicate}
-use Rattle.numeric.specs.Check.{every}
-use Rattle.numeric.specs.Sum.{sum}
 use Rattle.numeric.specs.Table.{tab}
-use Rattle.numeric.proofs.CheckLaws.{and-left, and-right, and-false, every-at}
-use Rattle.numeric.proofs.SumLaws.{sum-eq, sum-zero, sum-append}
-use Rattle.numeric.proofs.TableLaws.{getD-tab}
+use Rattle.numeric.proofs.TableLaws.{getD-tab, Each, each-at}
 use Rattle.stoichiometry.specs.declared.Set.{Set}
-use Rattle.stoichiometry.specs.Rows.{entry, oxygenChange, row, processesOf, processAt, rowEntry, rowsOf}
+use Rattle.stoichiometry.specs.Rows.{Process, Acceptor, oxygen, nitrateToNitrite, nitriteToN2, nitrateToN2, entry, oxygenChange, row, processesOf, processAt, rowEntry, rowsOf}
 use Rattle.stoichiometry.proofs.Balance.{getD-rows}
-use Rattle.step.specs.Stepping.{firstOf, endOf, changes, Entries, addedFrom}
+use Rattle.stoichiometry.proofs.Exact.{acceptor-no-o2}
+use Rattle.step.specs.Stepping.{digit, changing, mayChange, Entries, addedFrom}
 
--- An entry of a substance that the process does not change; 0 for the others.
-unchanged : Set → ℕ → ℤ
-unchanged set k = cond (changes (k / 18) (k % 18)) (pos 0) (rowEntry set (k / 18) (k % 18))
+-- The entries of the substance at place s in the rows of the processes that do not change it, by the number m: zeros.
+Column : Set → ℕ → ℕ → Type 0
+Column set s m = tab 17 (λ p. cond (digit m p) (pos 0) (rowEntry set p s)) ≡ replicate 17 (pos 0)
 
-all-zero : (set : Set) → tab 306 (unchanged set) ≡ replicate 306 (pos 0)
-unfolding tab unchanged rowEntry entry row oxygenChange processAt processesOf
-all-zero set = refl
+-- NH4: with nitrogen as nitrate or nitrite, what the closure gives is taken away again.
+column-nh4 : (set : Set) → Column set 2 30437
+unfolding Column tab digit rowEntry row entry oxygenChange processAt processesOf
+column-nh4 set = simp (+ℤ-idl, +ℤ-idr, +ℤ-invr) refl
+
+-- 1 for another acceptor than oxygen.
+isOther : Acceptor → ℕ
+isOther oxygen = 0
+isOther nitrateToNitrite = 1
+isOther nitriteToN2 = 1
+isOther nitrateToN2 = 1
+
+no-o2 : (set : Set) (p : Process) → isOther (p .acceptor) ≡ 1 → entry (row set p) 6 ≡ pos 0
+unfolding isOther
+no-o2 set p h = acceptor-no-o2 set p (λ e. omega (arith, h, ap isOther e))
+
+-- O2: another acceptor stands in for it.
+column-o2 : (set : Set) → Column set 6 32711
+unfolding Column tab digit rowEntry row entry oxygenChange processAt processesOf isOther
+column-o2 set =
+    λ i.
+    pos 0 ∷ pos 0 ∷ pos 0 ∷ no-o2 set (processAt set 3) refl i ∷ no-o2 set (processAt set 4) refl i ∷ no-o2 set (processAt set 5) refl i
+    ∷ pos 0 ∷ pos 0 ∷ pos 0 ∷ pos 0 ∷ pos 0 ∷ pos 0 ∷ pos 0 ∷ pos 0 ∷ pos 0 ∷ pos 0 ∷ pos 0 ∷ []
+
+columns : (set : Set) → Each (Column set) 0 changing
+unfolding Column tab digit rowEntry row entry oxygenChange processAt processesOf
+columns set = (refl, (refl, (column-nh4 set, (refl, (refl, (refl, (column-o2 set, (refl, (refl, (refl, (refl, (refl, (refl, (refl, (refl, (refl, (refl, (refl, tt))))))))))))))))))
 
 -- A process that does not change a substance has no entry for it.
-pub rows-none : (set : Set) (p s : ℕ) → p < 17 → s < 18 → changes p s ≡ false → getD (rowsOf set) (p * 18 + s) (pos 0) ≡ pos 0
-unfolding unchanged
+pub rows-none : (set : Set) (p s : ℕ) → p < 17 → s < 18 → mayChange p s ≡ false → getD (rowsOf set) (p * 18 + s) (pos 0) ≡ pos 0
+unfolding Column
 rows-none set p s h l e =
-    let k = p * 18 + s in
-    let process : k / 18 ≡ p = omega arith in
-    let place : k % 18 ≡ s = omega arith in
-    let zero : unchanged set k ≡ pos 0 = sym (getD-tab 306 (unchanged set) k (pos 0) (omega arith)) ∙ ap (λ (t : List ℤ). getD t k (pos 0)) (all-zero set) ∙ getD-replicate 306 k (pos 0) (pos 0) (omega arith) in
-    getD-rows set p s h l ∙ (rw (process, place, e) at zero)
+    let column = rw zero-add at (each-at (Column set) 0 changing s 0 (columns set) l) in
+    let zero = sym (getD-tab 17 (λ q. cond (mayChange q s) (pos 0) (rowEntry set q s)) p (pos 0) h) ∙ ap (λ (t : List ℤ). getD t p (pos 0)) column ∙ getD-replicate 17 p (pos 0) (pos 0) h in
+    getD-rows set p s h l ∙ (rw e at zero)
 
--- The processes that change a substance are among the 17.
-ranges : every 18 (λ s. leb (firstOf s) (endOf s) && leb (endOf s) 17) ≡ true
-unfolding every
-ranges = refl
+-- Such a process adds nothing.
+pub added-none : (whole : List ℤ) (at : ℕ) (entries : List ℤ) (s p : ℕ) → Entries entries → s < 18 → p < 17 → mayChange p s ≡ false
+    → addedFrom whole at entries s p ≡ pos 0
+added-none whole at entries s p e l h none =
+    ap (λ (z : ℤ). getD whole (at + p) (pos 0) *ℤ z) (e .none p s h l none) ∙ *ℤ-zero (getD whole (at + p) (pos 0))
 
-pub range-known : (s : ℕ) → s < 18 → (firstOf s ≤ endOf s) × (endOf s ≤ 17)
-range-known s l =
-    let both = every-at 18 s (λ q. leb (firstOf q) (endOf q) && leb (endOf q) 17) ranges l in
-    (leb-true (firstOf s) (endOf s) (and-left (leb (firstOf s) (endOf s)) (leb (endOf s) 17) both), leb-true (endOf s) 17 (and-right (leb (firstOf s) (endOf s)) (leb (endOf s) 17) both))
-
--- Terms that are 0 before a place, or from a place on, add nothing.
-sum-before : (n : ℕ) (f : ℕ → ℤ) → ((k : ℕ) → k < n → f k ≡ pos 0) → sum n f ≡ pos 0
-sum-before n f zero = sum-eq n f (λ k. pos 0) zero ∙ sum-zero n
-
-sum-after : (m n : ℕ) (f : ℕ → ℤ) → m ≤ n → ((k : ℕ) → m ≤ k → k < n → f k ≡ pos 0) → sum n f ≡ sum m f
-sum-after m n f h zero =
-    let split : m + (n - m) ≡ n = omega arith in
-    sym (ap (λ (k : ℕ). sum k f) split)
-    ∙ sum-append m (n - m) f
-    ∙ ap (λ (z : ℤ). sum m f +ℤ z) (sum-before (n - m) (λ k. f (m + k)) (λ k l. zero (m + k) (omega arith) (omega arith)))
-    ∙ +ℤ-idr (sum m f)
-
-module _ (whole : List ℤ) (at : ℕ) (entries : List ℤ) (s : ℕ) (e : Entries entries) (l : s < 18) where
-  added-none : (p : ℕ) → p < 17 → changes p s ≡ false → addedFrom whole at entries s p ≡ pos 0
-  added-none p h none = ap (λ (z : ℤ). getD whole (at + p) (pos 0) *ℤ z) (e .none p s h l none) ∙ *ℤ-zero (getD whole (at + p) (pos 0))
-
-  -- Nothing is added before the first process, and nothing from the end on.
-  pub none-before : sum (firstOf s) (addedFrom whole at entries s) ≡ pos 0
-  none-before =
-      let range = range-known s l in
-      sum-before (firstOf s) (addedFrom whole at entries s)
-      (λ p h. added-none p (omega (arith, range .0, range .1)) (ap (λ (b : Bool). b && ltb p (endOf s)) (lt-leb (firstOf s) p h)))
-
-  pub none-after : sum 17 (addedFrom whole at entries s) ≡ sum (endOf s) (addedFrom whole at entries s)
-  none-after =
-      let range = range-known s l in
-      sum-after (endOf s) 17 (addedFrom whole at entries s) (range .1)
-      (λ p h k. added-none p k (ap (λ (b : Bool). leb (firstOf s) p && b) (le-ltb p (endOf s) h) ∙ and-false (leb (firstOf s) p)))
+-- The digits of half a number are those of the number from place 1 on.
+pub digit-half : (n p : ℕ) → digit n (p + 1) ≡ digit (n / 2) p
+unfolding digit
+digit-half n p = rw add-one

@@ -10,11 +10,11 @@ use lib.Dec.{leb, ltb}
 use lib.ListN.{getD}
 use lib.IntN.{ℤ, pos, _+ℤ_, _*ℤ_}
 use lib.Signed.{leZ}
-use borrow.Author.Tests.{lt-ltb, le-ltb, leb-true, not-false}
+use borrow.Author.Tests.{lt-ltb, le-ltb, leb-true}
 use Rattle.numeric.specs.Check.{every}
 use Rattle.numeric.specs.Sum.{sum}
 use Rattle.numeric.specs.Table.{tab}
-use Rattle.numeric.proofs.CheckLaws.{every-at, every-all}
+use Rattle.numeric.proofs.CheckLaws.{every-at, every-eq}
 use Rattle.numeric.proofs.SumLaws.{sum-eq}
 use Rattle.numeric.proofs.TableLaws.{getD-tab, tab-eq}
 use Rattle.stoichiometry.specs.declared.Set.{Set}
@@ -25,16 +25,8 @@ use Rattle.kinetics.specs.declared.Conditions.{Conditions}
 use Rattle.river.specs.declared.River.{River}
 use Rattle.river.specs.Rivers.{amountAt, carryAt, riverWrong}
 use Rattle.river.proofs.Rivers.{river-cells, amount-fits-at, amount-bound, carry-bound}
-use Rattle.step.specs.declared.cells.Batches.{Batches}
 use Rattle.step.specs.Steps.{batches, newAmount, steppedAmounts, steppedCarries, conditionsWrong, batchesWrong}
-use Rattle.step.specs.Stepping.{Whole, Amounts, Going, addedFrom, newFrom, appliedFrom, wholeFrom, restFrom, batchesFrom}
-
--- Two tests that hold together are one.
-same-test : (a b : Bool) → (a ≡ true → b ≡ true) → (b ≡ true → a ≡ true) → a ≡ b
-same-test true true f g = refl
-same-test true false f g = sym (f refl)
-same-test false true f g = g refl
-same-test false false f g = refl
+use Rattle.step.specs.Stepping.{Whole, Amounts, Going, addedFrom, newFrom, appliedFrom, wholeFrom, restFrom}
 
 module _ (set : Set) (given : Conditions) (r : River) (right : riverWrong r ≡ false) where
   n : ℕ
@@ -88,30 +80,17 @@ module _ (set : Set) (given : Conditions) (r : River) (right : riverWrong r ≡ 
   few : ℕ → ℕ → Bool
   few c p = leb (batches set given (amountAt (r .amounts) c) (carryAt (r .carries) c) p) 100000
 
-  test : ℕ → Bool
-  test k = leZ (getD whole k (pos 0)) (pos 100000)
-
-  nested-flat : every (r .cells) (λ c. every processes (few c)) ≡ true → (k : ℕ) → k < 136 → Dec (k / 17 < r .cells) → test k ≡ true
-  unfolding few test whole wholeFrom
-  nested-flat e k h (yes l) =
-      rw (getD-tab 136 (wholeFrom set given (r .cells) (r .amounts) (r .carries)) k (pos 0) h, lt-ltb (k / 17) (r .cells) l)
-      (every-at processes (k % 17) (few (k / 17)) (every-at (r .cells) (k / 17) (λ c. every processes (few c)) e l) (omega arith))
-  nested-flat e k h (no g) =
-      rw (getD-tab 136 (wholeFrom set given (r .cells) (r .amounts) (r .carries)) k (pos 0) h, le-ltb (k / 17) (r .cells) (omega arith))
-
-  flat-nested : every 136 test ≡ true → (c : ℕ) → c < r .cells → (p : ℕ) → p < processes → few c p ≡ true
-  unfolding few test
-  flat-nested e c h p l =
-      rw (whole-in-cell c p h l) at (every-at 136 (c * 17 + p) test e (omega (arith, most)))
+  -- The test of the whole batches of process p of cell c.
+  test : ℕ → ℕ → Bool
+  test c p = leZ (getD whole (c * 17 + p) (pos 0)) (pos 100000)
 
   -- Check 7.
-  pub too-many-is : not (every 136 (λ k. leZ (getD (tab 136 (wholeFrom set given (r .cells) (r .amounts) (r .carries))) k (pos 0)) (pos 100000))) ≡ batchesWrong set given r
-  unfolding batchesWrong few test whole
-  too-many-is =
-      ap not
-      (same-test (every 136 test) (every (r .cells) (λ c. every processes (few c)))
-      (λ e. every-all (r .cells) (λ c. every processes (few c)) (λ c h. every-all processes (few c) (λ p l. flat-nested e c h p l)))
-      (λ e. every-all 136 test (λ k h. nested-flat e k h (decLt (k / 17) (r .cells)))))
+  pub batches-fit-is : every (r .cells) (λ c. every 17 (λ p. leZ (getD (tab 136 (wholeFrom set given (r .cells) (r .amounts) (r .carries))) (c * 17 + p) (pos 0)) (pos 100000)))
+      ≡ every (r .cells) (λ c. every processes (λ p. leb (batches set given (amountAt (r .amounts) c) (carryAt (r .carries) c) p) 100000))
+  unfolding few test whole
+  batches-fit-is =
+      every-eq (r .cells) (λ c. every 17 (test c)) (λ c. every processes (few c))
+      (λ c h. every-eq 17 (test c) (few c) (λ p l. rw (whole-in-cell c p h l)))
 
   whole-value : (k : ℕ) → k < 136 → Dec (k / 17 < r .cells) → (b : ℕ) × (getD whole k (pos 0) ≡ pos b)
   unfolding whole wholeFrom
@@ -123,7 +102,15 @@ module _ (set : Set) (given : Conditions) (r : River) (right : riverWrong r ≡ 
       (0, rw (getD-tab 136 (wholeFrom set given (r .cells) (r .amounts) (r .carries)) k (pos 0) h, le-ltb (k / 17) (r .cells) (omega arith)))
 
   -- Whole batches that passed check 7.
-  pub whole-small : not (every 136 (λ k. leZ (getD (tab 136 (wholeFrom set given (r .cells) (r .amounts) (r .carries))) k (pos 0)) (pos 100000))) ≡ false
+  few-at : every (r .cells) (λ c. every 17 (test c)) ≡ true → (k : ℕ) → k < 136 → Dec (k / 17 < r .cells) → leZ (getD whole k (pos 0)) (pos 100000) ≡ true
+  unfolding test whole wholeFrom
+  few-at e k h (yes l) =
+      let place : k / 17 * 17 + k % 17 ≡ k = omega arith in
+      rw place at (every-at 17 (k % 17) (test (k / 17)) (every-at (r .cells) (k / 17) (λ c. every 17 (test c)) e l) (omega arith))
+  few-at e k h (no g) =
+      rw (getD-tab 136 (wholeFrom set given (r .cells) (r .amounts) (r .carries)) k (pos 0) h, le-ltb (k / 17) (r .cells) (omega arith))
+
+  pub whole-small : every (r .cells) (λ c. every 17 (λ p. leZ (getD (tab 136 (wholeFrom set given (r .cells) (r .amounts) (r .carries))) (c * 17 + p) (pos 0)) (pos 100000))) ≡ true
       → Whole (tab 136 (wholeFrom set given (r .cells) (r .amounts) (r .carries)))
   unfolding whole test
   whole-small e =
@@ -131,7 +118,7 @@ module _ (set : Set) (given : Conditions) (r : River) (right : riverWrong r ≡ 
         most =
             λ k h.
             let v = whole-value k h (decLt (k / 17) (r .cells)) in
-            let t = rw (v .1) at (every-at 136 k test (not-false (every 136 test) e) h) in
+            let t = rw (v .1) at (few-at e k h (decLt (k / 17) (r .cells))) in
             rw (v .1) (leb-true (v .0) 100000 t);
       }
 
@@ -151,24 +138,16 @@ module _ (set : Set) (given : Conditions) (r : River) (right : riverWrong r ≡ 
         carry = record { most = λ k h. carry-bound r right k h };
       }
 
-  -- The same of the lists that the code made.
-  module _ (b : Batches) (made : b ≡ batchesFrom set given (r .cells) (r .amounts) (r .carries)) where
-    whole-made : b .whole ≡ tab 136 (wholeFrom set given (r .cells) (r .amounts) (r .carries))
-    unfolding batchesFrom
-    whole-made = ap (λ (x : Batches). x .whole) made
+  -- The same of the whole batches that the code made.
+  module _ (w : List ℤ) (made : w ≡ tab 136 (wholeFrom set given (r .cells) (r .amounts) (r .carries))) where
+    -- Check 7.
+    pub made-number : (t : Bool) → t ≡ every (r .cells) (λ c. every 17 (λ p. leZ (getD w (c * 17 + p) (pos 0)) (pos 100000))) → batchesWrong set given r ≡ not t
+    unfolding batchesWrong
+    made-number t e = sym (ap not (rw made at e ∙ batches-fit-is))
 
-    pub made-carries : b .carries ≡ steppedCarries set given r
-    unfolding batchesFrom
-    made-carries = ap (λ (x : Batches). x .carries) made ∙ rest-is
+    pub made-small : every (r .cells) (λ c. every 17 (λ p. leZ (getD w (c * 17 + p) (pos 0)) (pos 100000))) ≡ true → Whole w
+    made-small e = rw made (whole-small (rw made at e))
 
-    pub made-number : (t : Bool) → t ≡ not (every 136 (λ k. leZ (getD (b .whole) k (pos 0)) (pos 100000))) → batchesWrong set given r ≡ t
-    made-number t e =
-        sym (e ∙ ap (λ (w : List ℤ). not (every 136 (λ k. leZ (getD w k (pos 0)) (pos 100000)))) whole-made ∙ too-many-is)
-
-    pub made-small : not (every 136 (λ k. leZ (getD (b .whole) k (pos 0)) (pos 100000))) ≡ false → Whole (b .whole)
-    made-small e = rw whole-made (whole-small (rw whole-made at e))
-
-    pub made-amounts : (entries out : List ℤ) → entries ≡ rowsOf set → out ≡ appliedFrom (r .cells) (r .amounts) (b .whole) entries
+    pub made-amounts : (entries out : List ℤ) → entries ≡ rowsOf set → out ≡ appliedFrom (r .cells) (r .amounts) w entries
         → out ≡ steppedAmounts set given r
-    made-amounts entries out f e =
-        e ∙ ap₂ (λ (w l : List ℤ). appliedFrom (r .cells) (r .amounts) w l) whole-made f ∙ applied-is
+    made-amounts entries out f e = e ∙ ap₂ (λ (v l : List ℤ). appliedFrom (r .cells) (r .amounts) v l) made f ∙ applied-is

@@ -13,8 +13,8 @@ use Rattle.rows.specs.Answers.{rowsAnswer}
 use Rattle.kinetics.specs.declared.Conditions.{Conditions}
 use Rattle.river.specs.declared.River.{River}
 use Rattle.river.specs.Rivers.{amountsFit, riverWrong}
-use Rattle.step.specs.Steps.{steppedAmounts, conditionsWrong, batchesWrong, stepNumber, stepAnswer}
-use Rattle.step.specs.Stepping.{refusedWith, steppedAnswer}
+use Rattle.step.specs.Steps.{steppedAmounts, stepped, conditionsWrong, batchesWrong, stepNumber, stepAnswer}
+use Rattle.step.specs.Stepping.{answerWith}
 
 number-by : (set : Set) (n : ℕ) → setNumber set ≡ n → rowsAnswer set .number ≡ n
 unfolding rowsAnswer
@@ -31,7 +31,7 @@ rows-entries set x e z = rw (e, z)
 
 module _ (set : Set) (r : River) (given : Conditions) where
   set-by : (a b c : Bool) → fractionsWrong set ≡ a → figuresWrong set ≡ b → rowsWrong set ≡ c
-      → (setNumber set ≡ 0 → ⊥) → stepAnswer set r given ≡ refusedWith (setNumber set) r
+      → (setNumber set ≡ 0 → ⊥) → stepAnswer set r given ≡ answerWith (setNumber set) r
   unfolding stepAnswer stepNumber setNumber firstHolding
   set-by true b c p q s h = rw p
   set-by false true c p q s h = rw (p, q)
@@ -39,27 +39,34 @@ module _ (set : Set) (r : River) (given : Conditions) where
   set-by false false false p q s h = absurd (h (rw (p, q, s)))
 
   -- Refused by 1, 2 or 3: the number of the set.
-  pub set-refused : (setNumber set ≡ 0 → ⊥) → stepAnswer set r given ≡ refusedWith (setNumber set) r
+  pub set-refused : (setNumber set ≡ 0 → ⊥) → stepAnswer set r given ≡ answerWith (setNumber set) r
   set-refused h = set-by (fractionsWrong set) (figuresWrong set) (rowsWrong set) refl refl refl h
 
   module _ (one : fractionsWrong set ≡ false) (two : figuresWrong set ≡ false) (three : rowsWrong set ≡ false) where
     -- Refused by 4: the river.
-    pub river-refused : riverWrong r ≡ true → stepAnswer set r given ≡ refusedWith 4 r
+    pub river-refused : riverWrong r ≡ true → stepAnswer set r given ≡ answerWith 4 r
     unfolding stepAnswer stepNumber firstHolding
     river-refused e = rw (one, two, three, e)
 
     -- Refused by 6: the conditions.
-    pub conditions-refused : riverWrong r ≡ false → conditionsWrong given ≡ true → stepAnswer set r given ≡ refusedWith 6 r
+    pub conditions-refused : riverWrong r ≡ false → conditionsWrong given ≡ true → stepAnswer set r given ≡ answerWith 6 r
     unfolding stepAnswer stepNumber firstHolding
     conditions-refused e f = rw (one, two, three, e, f)
 
-    passed-by : (a b : Bool) → batchesWrong set given r ≡ a → amountsFit (r .cells) (steppedAmounts set given r) ≡ b
-        → riverWrong r ≡ false → conditionsWrong given ≡ false → stepAnswer set r given ≡ steppedAnswer set r given
-    unfolding stepAnswer stepNumber firstHolding steppedAnswer
-    passed-by true b p q e f = rw (one, two, three, e, f, p)
-    passed-by false true p q e f = rw (one, two, three, e, f, p, q)
-    passed-by false false p q e f = rw (one, two, three, e, f, p, q)
-
     -- What it was given passed its checks.
-    pub given-passed : riverWrong r ≡ false → conditionsWrong given ≡ false → stepAnswer set r given ≡ steppedAnswer set r given
-    given-passed e f = passed-by (batchesWrong set given r) (amountsFit (r .cells) (steppedAmounts set given r)) refl refl e f
+    module _ (four : riverWrong r ≡ false) (six : conditionsWrong given ≡ false) where
+      -- Refused by 7: the batches.
+      pub batches-refused : batchesWrong set given r ≡ true → stepAnswer set r given ≡ answerWith 7 r
+      unfolding stepAnswer stepNumber firstHolding
+      batches-refused e = rw (one, two, three, four, six, e)
+
+      -- Refused by 8: the amounts after.
+      pub amounts-refused : batchesWrong set given r ≡ false → amountsFit (r .cells) (steppedAmounts set given r) ≡ false → stepAnswer set r given ≡ answerWith 8 r
+      unfolding stepAnswer stepNumber firstHolding
+      amounts-refused e f = rw (one, two, three, four, six, e, f)
+
+      -- Stepped.
+      pub step-accepted : batchesWrong set given r ≡ false → amountsFit (r .cells) (steppedAmounts set given r) ≡ true
+          → stepAnswer set r given ≡ answerWith 0 (stepped set given r)
+      unfolding stepAnswer stepNumber firstHolding
+      step-accepted e f = rw (one, two, three, four, six, e, f)

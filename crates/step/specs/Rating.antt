@@ -1,8 +1,9 @@
--- What the code of a cell's extents works on and what it may assume (src/products.rt, src/rates.rt). Inner definitions: the
--- contract of `rates::cell_extents` names kinetics' `extentAt` alone. Laws: proofs/RatingLaws.antt. No assumptions.
+-- What the code of a cell's extents works on and what it may assume (src/factors.rt, products.rt, figures.rt, rates.rt). Inner
+-- definitions: the contract of `rates::cell_extents` names kinetics' `extentAt` alone. Laws: proofs/RatingLaws.antt.
+-- No assumptions.
 use Prim.Native.Nat.{ℕ, _+_, _*_, _/_, _≤_, _<_}
 use mathlib.Core.Bool.{Bool, true, false}
-use mathlib.Core.List.{List}
+use mathlib.Core.List.{List, [], _∷_}
 use mathlib.Core.Path.{_≡_}
 use lib.ListN.{getD}
 use lib.IntN.{ℤ, pos}
@@ -20,6 +21,7 @@ use Rattle.river.specs.Rivers.{mostCells, amountAt, amountFits}
 use Rattle.step.specs.declared.products.CellLevels.{CellLevels}
 use Rattle.step.specs.declared.products.Three.{Three}
 use Rattle.step.specs.declared.products.Four.{Four}
+use Rattle.step.specs.declared.figures.BatchSizes.{BatchSizes}
 use Rattle.step.specs.Steps.{conditionsWrong}
 
 -- The levels that a cell's levels in the code stand for.
@@ -49,18 +51,27 @@ fourFrom set given l p =
 unfoldable pub sizesOf : Set → List ℕ
 sizesOf set = tab processes (λ p. 1000 * processAt set p .batch)
 
--- The extent of the process at place p, by lists of X, rate constants, products and 1,000 × b, and seconds.
-abbrev pub extentFrom : List ℕ → List ℕ → List ℕ → List ℕ → ℕ → ℕ → ℕ
-extentFrom xs ks ps bs seconds p = getD xs p 0 * quota (getD ks p 0) (getD ps p 0) seconds / getD bs p 0
+-- The same by those of the processes that have a yield.
+abbrev pub sizesIn : BatchSizes → List ℕ
+sizesIn b =
+    b .aerobic ∷ b .aerobic ∷ 100000 ∷ b .nitrate ∷ b .nitrite ∷ 100000 ∷ b .xn1 ∷ 100000 ∷ b .xn2 ∷ 100000
+    ∷ 100000 ∷ 100000 ∷ 100000 ∷ 10000000 ∷ 100000 ∷ 100000 ∷ 100000 ∷ []
+
+-- The extent of the process at place p, by lists of X, rate constants and products, its 1,000 × b, and seconds.
+abbrev pub extentFrom : List ℕ → List ℕ → List ℕ → ℕ → ℕ → ℕ → ℕ
+extentFrom xs ks ps p size seconds = getD xs p 0 * quota (getD ks p 0) (getD ps p 0) seconds / size
 
 -- They fit the machine: X at most the most of a level, rate constants at most 20,000, products at most 4,000,000, seconds at
--- most 3,600, no batch size 0.
-pub record ExtentsFit (xs ks ps bs : List ℕ) (seconds : ℕ) : Type 0 where
+-- most 3,600.
+pub record ExtentsFit (xs ks ps : List ℕ) (seconds : ℕ) : Type 0 where
   pub driving : (p : ℕ) → getD xs p 0 ≤ mostLevel
   pub constants : (p : ℕ) → getD ks p 0 ≤ 20000
   pub products : (p : ℕ) → getD ps p 0 ≤ 4000000
-  pub sizes : (p : ℕ) → p < processes → 1 ≤ getD bs p 0
   pub time : seconds ≤ 3600
+
+-- No 1,000 × b is 0.
+pub record SizesFit (sizes : List ℕ) : Type 0 where
+  pub size : (p : ℕ) → p < processes → 1 ≤ getD sizes p 0
 
 -- No half-saturation is 0.
 pub record HalvesFit (h : HalfSaturations) : Type 0 where
@@ -72,12 +83,12 @@ pub record HalvesFit (h : HalfSaturations) : Type 0 where
 
 -- What a step has before it goes through the cells: set and conditions that checks 2 and 6 pass, and made of the set its
 -- rows, rate constants and 1,000 × b.
-pub record Prepared (set : Set) (given : Conditions) (entries : List ℤ) (ks bs : List ℕ) : Type 0 where
+pub record Prepared (set : Set) (given : Conditions) (entries : List ℤ) (ks : List ℕ) (b : BatchSizes) : Type 0 where
   pub figures : figuresWrong set ≡ false
   pub conditions : conditionsWrong given ≡ false
   pub rows : entries ≡ rowsOf set
   pub constants : ks ≡ constantsOf set
-  pub sizes : bs ≡ sizesOf set
+  pub sizes : sizesIn b ≡ sizesOf set
 
 -- Cell c is one of the river's, and its amounts are in their bounds.
 pub record CellFits (amounts : List ℤ) (c : ℕ) : Type 0 where

@@ -1,10 +1,10 @@
 -- What the inner functions of the step are held to: numbers in reach, and what one turn adds. Inner definitions; the step
 -- itself is Steps.antt. No assumptions.
-use Prim.Native.Nat.{ℕ, _+_, _*_, _/_, _%_, _≤_, _<_}
-use mathlib.Core.Bool.{Bool, true, false, cond, _&&_}
+use Prim.Native.Nat.{ℕ, zero, suc, _+_, _*_, _/_, _%_, _≤_, _<_}
+use mathlib.Core.Bool.{Bool, true, false, cond}
 use mathlib.Core.List.{List, [], _∷_}
 use mathlib.Core.Path.{_≡_}
-use lib.Dec.{leb, ltb}
+use lib.Dec.{ltb, eqb}
 use lib.ListN.{getD}
 use lib.IntN.{ℤ, pos, natAbs, _+ℤ_, _*ℤ_}
 use Rattle.numeric.specs.Sum.{sum}
@@ -16,19 +16,23 @@ use Rattle.stoichiometry.specs.Rows.{rowsOf}
 use Rattle.kinetics.specs.declared.Conditions.{Conditions}
 use Rattle.river.specs.declared.River.{River}
 use Rattle.river.specs.declared.Changed.{Changed}
-use Rattle.river.specs.Rivers.{mostCells, amountAt, carryAt, amountFits, amountsFit, riverWrong}
-use Rattle.step.specs.declared.cells.Batches.{Batches}
-use Rattle.step.specs.Steps.{batches, newCarry, steppedAmounts, stepped, conditionsWrong, batchesWrong}
+use Rattle.river.specs.Rivers.{mostCells, amountAt, carryAt, amountFits, riverWrong}
+use Rattle.step.specs.Steps.{batches, newCarry, conditionsWrong}
 
--- The processes that may change the substance at place s, counted from 0: from the first on, up to the end.
-abbrev pub firstOf : ℕ → ℕ
-firstOf s = getD (0 ∷ 0 ∷ 0 ∷ 3 ∷ 1 ∷ 0 ∷ 0 ∷ 0 ∷ 0 ∷ 0 ∷ 6 ∷ 8 ∷ 10 ∷ 13 ∷ 2 ∷ 15 ∷ 0 ∷ 4 ∷ []) s 0
+-- The digit at place p of a number in binary is 1; the last digit has place 0.
+unfoldable pub digit : ℕ → ℕ → Bool
+digit n zero = eqb (n % 2) 1
+digit n (suc p) = digit (n / 2) p
 
-abbrev pub endOf : ℕ → ℕ
-endOf s = getD (15 ∷ 0 ∷ 15 ∷ 9 ∷ 12 ∷ 17 ∷ 15 ∷ 15 ∷ 15 ∷ 6 ∷ 8 ∷ 10 ∷ 14 ∷ 15 ∷ 14 ∷ 17 ∷ 15 ∷ 6 ∷ []) s 0
+-- The processes that may change each substance, as a number: its digits in binary are 1 at their places.
+abbrev pub changing : List ℕ
+changing = 16411 ∷ 0 ∷ 30437 ∷ 344 ∷ 2346 ∷ 131071 ∷ 32711 ∷ 32767 ∷ 32767 ∷ 63 ∷ 192 ∷ 768 ∷ 15360 ∷ 24576 ∷ 12964 ∷ 98304 ∷ 32767 ∷ 48 ∷ []
 
-abbrev pub changes : ℕ → ℕ → Bool
-changes p s = leb (firstOf s) p && ltb p (endOf s)
+abbrev pub changingOf : ℕ → ℕ
+changingOf s = getD changing s 0
+
+abbrev pub mayChange : ℕ → ℕ → Bool
+mayChange p s = digit (changingOf s) p
 
 -- Extents of one cell, carries, whole batches that passed check 7, entries of rows, amounts of a river: none too large.
 pub record Extents (extents : List ℕ) : Type 0 where
@@ -42,7 +46,7 @@ pub record Whole (whole : List ℤ) : Type 0 where
 
 pub record Entries (entries : List ℤ) : Type 0 where
   pub most : (k : ℕ) → k < 306 → natAbs (getD entries k (pos 0)) ≤ 2500000000000
-  pub none : (p s : ℕ) → p < 17 → s < 18 → changes p s ≡ false → getD entries (p * 18 + s) (pos 0) ≡ pos 0
+  pub none : (p s : ℕ) → p < 17 → s < 18 → mayChange p s ≡ false → getD entries (p * 18 + s) (pos 0) ≡ pos 0
 
 pub record Amounts (amounts : List ℤ) : Type 0 where
   pub most : (k : ℕ) → k < 144 → natAbs (getD amounts k (pos 0)) ≤ 1000000000000000000
@@ -74,10 +78,6 @@ restFrom set given n amounts carries k =
     let c = k / 17 in
     cond (ltb c n) (newCarry set given (amountAt amounts c) (carryAt carries c) (k % 17)) 0
 
-unfoldable pub batchesFrom : Set → Conditions → ℕ → List ℤ → List ℕ → Batches
-batchesFrom set given n amounts carries =
-    record { whole = tab 136 (wholeFrom set given n amounts carries); carries = tab 136 (restFrom set given n amounts carries) }
-
 -- What the loop over the cells works on: n cells whose amounts and carries are in their bounds, the set's rows.
 pub record Going (set : Set) (given : Conditions) (n : ℕ) (entries : List ℤ) (amounts : List ℤ) (carries : List ℕ) : Type 0 where
   pub cells : n ≤ mostCells
@@ -95,11 +95,9 @@ pub record Ready (set : Set) (r : River) (given : Conditions) (entries : List �
   pub conditions : conditionsWrong given ≡ false
   pub rows : entries ≡ rowsOf set
 
-abbrev pub refusedWith : ℕ → River → Changed
-refusedWith number r = record { number = number; river = r }
+-- A river by its parts.
+abbrev pub riverWith : ℕ → List ℤ → List ℕ → River
+riverWith n amounts carries = record { cells = n; amounts = amounts; carries = carries }
 
--- The step after the checks of what it was given: 7, 8, or the river after.
-unfoldable pub steppedAnswer : Set → River → Conditions → Changed
-steppedAnswer set r given =
-    cond (batchesWrong set given r) (refusedWith 7 r)
-    (cond (amountsFit (r .cells) (steppedAmounts set given r)) (record { number = 0; river = stepped set given r }) (refusedWith 8 r))
+abbrev pub answerWith : ℕ → River → Changed
+answerWith number r = record { number = number; river = r }

@@ -1,35 +1,55 @@
 // New amounts: old amounts and the batches of every process times its entries.
 ghost use mathlib.Core.Path.{_≡_};
-ghost use Prim.Native.Nat.{ℕ, _+_, _*_, _≤_, _<_};
-ghost use lib.ListN.{getD, set};
-ghost use lib.IntN.{ℤ, pos, natAbs, _+ℤ_, _*ℤ_};
+ghost use Prim.Native.Nat.{_+_, _*_, _≤_, _<_};
+ghost use lib.ListN.{getD, set, replicate};
+ghost use lib.IntN.{pos, natAbs, _+ℤ_};
 ghost use Rattle.numeric.specs.Sum.{sum};
 ghost use Rattle.numeric.specs.Table.{run};
-ghost use Rattle.step.specs.Stepping.{firstOf, endOf, Whole, Entries, Amounts, addedFrom, appliedFrom};
+ghost use Rattle.step.specs.Stepping.{changingOf, mayChange, Whole, Entries, Amounts, addedFrom, appliedFrom};
 use river::AMOUNTS;
 use river::CARRIES;
 use stoichiometry::ENTRIES;
 use stoichiometry::PROCESSES;
 use stoichiometry::SUBSTANCES;
 
-// An amount of the substance at place s, and the batches from `at` on times the entries. Only the processes from `first` up to
-// `end` change the substance; the others have no entry for it.
+// What the process at place p adds to the substance at place s; a process that does not change it has no entry for it.
+fn added_by(
+    whole: &[i64; CARRIES],
+    at: usize,
+    entries: &[i64; ENTRIES],
+    s: usize,
+    p: usize,
+    changes: bool,
+) -> i64
+    requires { ⌜ (at + 17 ≤ 136) × (s < 18) × (p < 17) × Whole (now whole) × Entries (now entries) × (changes ≡ mayChange p s) ⌝ }
+    ensures { λ r. ⌜ r ≡ addedFrom (now (whole .entry)) at (now (entries .entry)) s p ⌝ }
+{
+    if changes {
+        whole[at + p] * entries[p * SUBSTANCES + s]
+    } else {
+        0
+    }
+}
+
+// An amount of the substance at place s, and the batches from `at` on times the entries. The binary digits of `changing` say
+// which processes change the substance, process 1 last.
 fn added(
     start: i64,
     whole: &[i64; CARRIES],
     at: usize,
     entries: &[i64; ENTRIES],
     s: usize,
-    first: usize,
-    end: usize,
+    changing: u32,
 ) -> i64
-    requires { ⌜ (natAbs start ≤ 1000000000000000000) × (at + 17 ≤ 136) × (s < 18) × Whole (now whole) × Entries (now entries) × (first ≡ firstOf s) × (end ≡ endOf s) ⌝ }
+    requires { ⌜ (natAbs start ≤ 1000000000000000000) × (at + 17 ≤ 136) × (s < 18) × Whole (now whole) × Entries (now entries) × (changing ≡ changingOf s) ⌝ }
     ensures { λ r. ⌜ r ≡ start +ℤ sum 17 (λ p. addedFrom (now (whole .entry)) at (now (entries .entry)) s p) ⌝ }
 {
     let mut total = start;
-    let mut p = first;
-    while p < end {
-        total = total + whole[at + p] * entries[p * SUBSTANCES + s];
+    let mut digits = changing;
+    let mut p = 0;
+    while p < PROCESSES {
+        total = total + added_by(whole, at, entries, s, p, digits % 2 == 1);
+        digits = digits / 2;
         p += 1;
     }
     total
@@ -42,19 +62,18 @@ fn apply_one(
     entries: &[i64; ENTRIES],
     c: usize,
     s: usize,
-    first: usize,
-    end: usize,
+    changing: u32,
     out: &mut [i64; AMOUNTS],
 )
-    requires { ⌜ (c < 8) × Amounts (now amounts) × Whole (now whole) × Entries (now entries) × (s < 18) × (first ≡ firstOf s) × (end ≡ endOf s) ⌝ }
+    requires { ⌜ (c < 8) × Amounts (now amounts) × Whole (now whole) × Entries (now entries) × (s < 18) × (changing ≡ changingOf s) ⌝ }
     ensures { λ r. ⌜ now (out .exit) ≡ set (now (out .entry)) (c * 18 + s) (getD (now (amounts .entry)) (c * 18 + s) (pos 0) +ℤ sum 17 (λ p. addedFrom (now (whole .entry)) (c * 17) (now (entries .entry)) s p)) ⌝ }
 {
     let k = c * SUBSTANCES + s;
-    out[k] = added(amounts[k], whole, c * PROCESSES, entries, s, first, end);
+    out[k] = added(amounts[k], whole, c * PROCESSES, entries, s, changing);
 }
 
-// The new amounts of cell c, substance by substance, SS to N2: place, first process and end are written out, so that each sum
-// has a fixed length.
+// The new amounts of cell c, substance by substance, SS to N2: places and the processes that change each are written out, so
+// that each sum has its terms alone.
 pub(crate) fn apply_cell(
     amounts: &[i64; AMOUNTS],
     whole: &[i64; CARRIES],
@@ -65,41 +84,40 @@ pub(crate) fn apply_cell(
     requires { ⌜ (c < 8) × Amounts (now amounts) × Whole (now whole) × Entries (now entries) ⌝ }
     ensures { λ r. ⌜ now (out .exit) ≡ run (now (out .entry)) (c * 18) 18 (λ s. getD (now (amounts .entry)) (c * 18 + s) (pos 0) +ℤ sum 17 (λ p. addedFrom (now (whole .entry)) (c * 17) (now (entries .entry)) s p)) ⌝ }
 {
-    apply_one(amounts, whole, entries, c, 0, 0, 15, out);
-    apply_one(amounts, whole, entries, c, 1, 0, 0, out);
-    apply_one(amounts, whole, entries, c, 2, 0, 15, out);
-    apply_one(amounts, whole, entries, c, 3, 3, 9, out);
-    apply_one(amounts, whole, entries, c, 4, 1, 12, out);
-    apply_one(amounts, whole, entries, c, 5, 0, 17, out);
-    apply_one(amounts, whole, entries, c, 6, 0, 15, out);
-    apply_one(amounts, whole, entries, c, 7, 0, 15, out);
-    apply_one(amounts, whole, entries, c, 8, 0, 15, out);
-    apply_one(amounts, whole, entries, c, 9, 0, 6, out);
-    apply_one(amounts, whole, entries, c, 10, 6, 8, out);
-    apply_one(amounts, whole, entries, c, 11, 8, 10, out);
-    apply_one(amounts, whole, entries, c, 12, 10, 14, out);
-    apply_one(amounts, whole, entries, c, 13, 13, 15, out);
-    apply_one(amounts, whole, entries, c, 14, 2, 14, out);
-    apply_one(amounts, whole, entries, c, 15, 15, 17, out);
-    apply_one(amounts, whole, entries, c, 16, 0, 15, out);
-    apply_one(amounts, whole, entries, c, 17, 4, 6, out);
+    apply_one(amounts, whole, entries, c, 0, 0b0_0100_0000_0001_1011, out);
+    apply_one(amounts, whole, entries, c, 1, 0b0_0000_0000_0000_0000, out);
+    apply_one(amounts, whole, entries, c, 2, 0b0_0111_0110_1110_0101, out);
+    apply_one(amounts, whole, entries, c, 3, 0b0_0000_0001_0101_1000, out);
+    apply_one(amounts, whole, entries, c, 4, 0b0_0000_1001_0010_1010, out);
+    apply_one(amounts, whole, entries, c, 5, 0b1_1111_1111_1111_1111, out);
+    apply_one(amounts, whole, entries, c, 6, 0b0_0111_1111_1100_0111, out);
+    apply_one(amounts, whole, entries, c, 7, 0b0_0111_1111_1111_1111, out);
+    apply_one(amounts, whole, entries, c, 8, 0b0_0111_1111_1111_1111, out);
+    apply_one(amounts, whole, entries, c, 9, 0b0_0000_0000_0011_1111, out);
+    apply_one(amounts, whole, entries, c, 10, 0b0_0000_0000_1100_0000, out);
+    apply_one(amounts, whole, entries, c, 11, 0b0_0000_0011_0000_0000, out);
+    apply_one(amounts, whole, entries, c, 12, 0b0_0011_1100_0000_0000, out);
+    apply_one(amounts, whole, entries, c, 13, 0b0_0110_0000_0000_0000, out);
+    apply_one(amounts, whole, entries, c, 14, 0b0_0011_0010_1010_0100, out);
+    apply_one(amounts, whole, entries, c, 15, 0b1_1000_0000_0000_0000, out);
+    apply_one(amounts, whole, entries, c, 16, 0b0_0111_1111_1111_1111, out);
+    apply_one(amounts, whole, entries, c, 17, 0b0_0000_0000_0011_0000, out);
 }
 
-// The new amounts of n cells, zeros beyond.
-pub(crate) fn applied(
+// Writes the new amounts of n cells into a list of zeros.
+pub(crate) fn apply_cells(
     n: usize,
     amounts: &[i64; AMOUNTS],
     whole: &[i64; CARRIES],
     entries: &[i64; ENTRIES],
-) -> [i64; AMOUNTS]
-    requires { ⌜ (n ≤ 8) × Amounts (now amounts) × Whole (now whole) × Entries (now entries) ⌝ }
-    ensures { λ r. ⌜ r ≡ appliedFrom n (now (amounts .entry)) (now (whole .entry)) (now (entries .entry)) ⌝ }
+    out: &mut [i64; AMOUNTS],
+)
+    requires { ⌜ (n ≤ 8) × Amounts (now amounts) × Whole (now whole) × Entries (now entries) × (now out ≡ replicate 144 (pos 0)) ⌝ }
+    ensures { λ r. ⌜ now (out .exit) ≡ appliedFrom n (now (amounts .entry)) (now (whole .entry)) (now (entries .entry)) ⌝ }
 {
-    let mut out = [0; AMOUNTS];
     let mut c = 0;
     while c < n {
-        apply_cell(amounts, whole, entries, c, &mut out);
+        apply_cell(amounts, whole, entries, c, out);
         c += 1;
     }
-    out
 }

@@ -1,11 +1,13 @@
 // Whole batches and new carries of all cells, from the old amounts and carries.
 ghost use mathlib.Core.Path.{_≡_};
-ghost use Rattle.step.specs.Stepping.{Going, batchesFrom};
-use crate::rates::batch_sizes;
+ghost use lib.IntN.{pos};
+ghost use lib.ListN.{replicate};
+ghost use Rattle.numeric.specs.Table.{tab};
+ghost use Rattle.step.specs.Stepping.{Going, wholeFrom, restFrom};
+use crate::figures::batch_sizes;
+use crate::figures::rate_constants;
 use crate::rates::cell_extents;
-use crate::rates::rate_constants;
-use crate::split::split_rest;
-use crate::split::split_whole;
+use crate::split::split;
 use kinetics::Conditions;
 use river::AMOUNTS;
 use river::CARRIES;
@@ -13,37 +15,27 @@ use stoichiometry::ENTRIES;
 use stoichiometry::PROCESSES;
 use stoichiometry::Set;
 
-// Whole batches and new carries, process after process, cell after cell; zeros beyond the last cell.
-pub(crate) struct Batches {
-    pub whole: [i64; CARRIES],
-    pub carries: [u32; CARRIES],
-}
-
-pub(crate) fn batches_of(
+// Writes the whole batches and the new carries, process after process, cell after cell, into lists of zeros.
+pub(crate) fn make_batches(
     set: Set,
     given: Conditions,
     n: usize,
     entries: &[i64; ENTRIES],
     amounts: &[i64; AMOUNTS],
     carries: &[u32; CARRIES],
-) -> Batches
-    requires { ⌜ Going set given n (now entries) (now amounts) (now carries) ⌝ }
-    ensures { λ r. ⌜ r ≡ batchesFrom set given n (now (amounts .entry)) (now (carries .entry)) ⌝ }
+    whole: &mut [i64; CARRIES],
+    rest: &mut [u32; CARRIES],
+)
+    requires { ⌜ Going set given n (now entries) (now amounts) (now carries) × (now whole ≡ replicate 136 (pos 0)) × (now rest ≡ replicate 136 0) ⌝ }
+    ensures { λ r. ⌜ now (whole .exit) ≡ tab 136 (wholeFrom set given n (now (amounts .entry)) (now (carries .entry))) ⌝ }
+    ensures { λ r. ⌜ now (rest .exit) ≡ tab 136 (restFrom set given n (now (amounts .entry)) (now (carries .entry))) ⌝ }
 {
     let constants = rate_constants(set.rates);
     let sizes = batch_sizes(set.yields);
-    let mut whole = [0; CARRIES];
-    let mut rest = [0; CARRIES];
     let mut c = 0;
     while c < n {
-        let extents = cell_extents(set, given, entries, &constants, &sizes, amounts, c);
-        let at = c * PROCESSES;
-        split_whole(&extents, carries, at, &mut whole);
-        split_rest(&extents, carries, at, &mut rest);
+        let extents = cell_extents(set, given, entries, &constants, sizes, amounts, c);
+        split(&extents, carries, c * PROCESSES, whole, rest);
         c += 1;
-    }
-    Batches {
-        whole,
-        carries: rest,
     }
 }

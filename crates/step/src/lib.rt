@@ -2,11 +2,14 @@
 ghost use mathlib.Core.Path.{_≡_};
 ghost use Rattle.step.specs.Steps.{stepAnswer};
 use crate::conditions::conditions_wrong;
-use crate::stepping::refused;
-use crate::stepping::stepped;
+use crate::stepping::answered;
+use crate::stepping::step_cells;
 use kinetics::Conditions;
+use river::AMOUNTS;
+use river::CARRIES;
 use river::Changed;
 use river::River;
+use river::amounts_in_bounds;
 use river::river_wrong;
 use rows::rows_of;
 use stoichiometry::Set;
@@ -14,6 +17,8 @@ use stoichiometry::Set;
 mod apply;
 mod cells;
 mod conditions;
+mod factors;
+mod figures;
 mod products;
 mod rates;
 mod split;
@@ -26,13 +31,38 @@ pub fn step_river(set: Set, river: River, given: Conditions) -> Changed
 {
     let rows = rows_of(set);
     if rows.number != 0 {
-        return refused(rows.number, river);
+        return answered(rows.number, river);
     }
     if river_wrong(river) {
-        return refused(4, river);
+        return answered(4, river);
     }
     if conditions_wrong(given) {
-        return refused(6, river);
+        return answered(6, river);
     }
-    stepped(set, river, given, &rows.entries)
+    let carries = river.carries;
+    let mut amounts = [0; AMOUNTS];
+    let mut rest = [0; CARRIES];
+    let fit = step_cells(
+        set,
+        given,
+        river.cells,
+        &rows.entries,
+        &river.amounts,
+        &carries,
+        &mut amounts,
+        &mut rest,
+    );
+    if !fit {
+        return answered(7, river);
+    }
+    let after = River {
+        cells: river.cells,
+        amounts,
+        carries: rest,
+    };
+    if amounts_in_bounds(after) {
+        answered(0, after)
+    } else {
+        answered(8, river)
+    }
 }

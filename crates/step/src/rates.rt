@@ -1,24 +1,23 @@
 // The extents of one cell.
 ghost use mathlib.Core.Path.{_≡_};
-ghost use Prim.Native.Nat.{_*_, _/_, _≤_};
+ghost use Prim.Native.Nat.{_*_, _/_, _≤_, _<_};
+ghost use lib.ListN.{getD};
 ghost use lib.IntN.{natAbs};
 ghost use Rattle.numeric.specs.Table.{tab};
-ghost use Rattle.stoichiometry.specs.declared.Set.{Set as AnySet};
 ghost use Rattle.stoichiometry.specs.Rows.{processes};
-ghost use Rattle.kinetics.specs.Rates.{levelsOf, constantsOf, drivenBy, quota, extentAt};
+ghost use Rattle.kinetics.specs.Rates.{levelsOf, drivenBy, quota, extentAt};
 ghost use Rattle.kinetics.specs.Ranges.{mostLevel};
 ghost use Rattle.river.specs.Rivers.{amountAt};
-ghost use Rattle.step.specs.Rating.{levelsIn, sizesOf, extentFrom, ExtentsFit, Prepared, CellFits, Counted};
+ghost use Rattle.step.specs.Rating.{levelsIn, sizesIn, extentFrom, ExtentsFit, SizesFit, Prepared, CellFits, Counted};
+use crate::figures::BatchSizes;
 use crate::products::CellLevels;
 use crate::products::products;
 use kinetics::Conditions;
 use river::AMOUNTS;
 use stoichiometry::ENTRIES;
 use stoichiometry::PROCESSES;
-use stoichiometry::RateConstants;
 use stoichiometry::SUBSTANCES;
 use stoichiometry::Set;
-use stoichiometry::Yields;
 
 // Grains per µg.
 const GRAINS_O: u64 = Set::GRAINS_PER_MICROGRAM_O as u64;
@@ -27,62 +26,10 @@ const GRAINS_N: u64 = Set::GRAINS_PER_MICROGRAM_N as u64;
 
 const GRAINS_P: u64 = Set::GRAINS_PER_MICROGRAM_P as u64;
 
-// The rate constant of each process, thousandths per day.
-pub(crate) fn rate_constants(k: RateConstants) -> [u64; PROCESSES]
-    ensures { λ r. ⌜ ((set : AnySet) → set .rates ≡ k → r ≡ constantsOf set) ⌝ }
-{
-    let aerobic = k.aerobic.growth as u64;
-    let anoxic = k.anoxic.growth as u64;
-    [
-        aerobic,
-        aerobic,
-        k.aerobic.respiration as u64,
-        anoxic,
-        anoxic,
-        k.anoxic.respiration as u64,
-        k.xn1.growth as u64,
-        k.xn1.respiration as u64,
-        k.xn2.growth as u64,
-        k.xn2.respiration as u64,
-        k.algae.ammonium as u64,
-        k.algae.nitrate as u64,
-        k.algae.respiration as u64,
-        k.algae.death as u64,
-        k.hydrolysis as u64,
-        k.adsorption as u64,
-        k.desorption as u64,
-    ]
-}
+// 1,000 × b of the processes that have no yield: 14, and all others.
+const SIZE_14: u64 = 10000000;
 
-// 1,000 × b of each process.
-pub(crate) fn batch_sizes(y: Yields) -> [u64; PROCESSES]
-    ensures { λ r. ⌜ ((set : AnySet) → set .yields ≡ y → r ≡ sizesOf set) ⌝ }
-{
-    let aerobic = 1000 * y.aerobic as u64;
-    let nitrate = 1000 * y.nitrate as u64;
-    let nitrite = 1000 * y.nitrite as u64;
-    let xn1 = 1000 * y.xn1 as u64;
-    let xn2 = 1000 * y.xn2 as u64;
-    [
-        aerobic,
-        aerobic,
-        100000,
-        nitrate,
-        nitrite,
-        100000,
-        xn1,
-        100000,
-        xn2,
-        100000,
-        100000,
-        100000,
-        100000,
-        10000000,
-        100000,
-        100000,
-        100000,
-    ]
-}
+const SIZE: u64 = 100000;
 
 // The amount of the substance at place s in cell c, which is not negative: all but the net changes.
 fn amount(amounts: &[i64; AMOUNTS], c: usize, s: usize) -> u64
@@ -146,29 +93,51 @@ fn extent(x: u64, k: u64, p: u64, size: u64, seconds: u64) -> u64
     x * q / size
 }
 
+// The extent of the process at place p, whose 1,000 × b is `size`.
+fn extent_of(
+    driving: &[u64; PROCESSES],
+    constants: &[u64; PROCESSES],
+    products: &[u64; PROCESSES],
+    p: usize,
+    size: u64,
+    seconds: u32,
+) -> u64
+    requires { ⌜ ExtentsFit (now driving) (now constants) (now products) seconds × (p < processes) × (1 ≤ size) ⌝ }
+    ensures { λ r. ⌜ r ≡ extentFrom (now (driving .entry)) (now (constants .entry)) (now (products .entry)) p size seconds ⌝ }
+{
+    extent(driving[p], constants[p], products[p], size, seconds as u64)
+}
+
+// Places and sizes are written out: where a set has no say in the size, it is divided by a constant.
 fn extents(
     driving: &[u64; PROCESSES],
     constants: &[u64; PROCESSES],
     products: &[u64; PROCESSES],
-    sizes: &[u64; PROCESSES],
+    sizes: BatchSizes,
     seconds: u32,
 ) -> [u64; PROCESSES]
-    requires { ⌜ ExtentsFit (now driving) (now constants) (now products) (now sizes) seconds ⌝ }
-    ensures { λ r. ⌜ r ≡ tab processes (extentFrom (now (driving .entry)) (now (constants .entry)) (now (products .entry)) (now (sizes .entry)) seconds) ⌝ }
+    requires { ⌜ ExtentsFit (now driving) (now constants) (now products) seconds × SizesFit (sizesIn sizes) ⌝ }
+    ensures { λ r. ⌜ r ≡ tab processes (λ p. extentFrom (now (driving .entry)) (now (constants .entry)) (now (products .entry)) p (getD (sizesIn sizes) p 0) seconds) ⌝ }
 {
-    let mut made = [0; PROCESSES];
-    let mut p = 0;
-    while p < PROCESSES {
-        made[p] = extent(
-            driving[p],
-            constants[p],
-            products[p],
-            sizes[p],
-            seconds as u64,
-        );
-        p += 1;
-    }
-    made
+    [
+        extent_of(driving, constants, products, 0, sizes.aerobic, seconds),
+        extent_of(driving, constants, products, 1, sizes.aerobic, seconds),
+        extent_of(driving, constants, products, 2, SIZE, seconds),
+        extent_of(driving, constants, products, 3, sizes.nitrate, seconds),
+        extent_of(driving, constants, products, 4, sizes.nitrite, seconds),
+        extent_of(driving, constants, products, 5, SIZE, seconds),
+        extent_of(driving, constants, products, 6, sizes.xn1, seconds),
+        extent_of(driving, constants, products, 7, SIZE, seconds),
+        extent_of(driving, constants, products, 8, sizes.xn2, seconds),
+        extent_of(driving, constants, products, 9, SIZE, seconds),
+        extent_of(driving, constants, products, 10, SIZE, seconds),
+        extent_of(driving, constants, products, 11, SIZE, seconds),
+        extent_of(driving, constants, products, 12, SIZE, seconds),
+        extent_of(driving, constants, products, 13, SIZE_14, seconds),
+        extent_of(driving, constants, products, 14, SIZE, seconds),
+        extent_of(driving, constants, products, 15, SIZE, seconds),
+        extent_of(driving, constants, products, 16, SIZE, seconds),
+    ]
 }
 
 // The extents of the processes in cell c, millionths of a batch. `constants` and `sizes` are the set's rate constants and
@@ -178,11 +147,11 @@ pub(crate) fn cell_extents(
     given: Conditions,
     entries: &[i64; ENTRIES],
     constants: &[u64; PROCESSES],
-    sizes: &[u64; PROCESSES],
+    sizes: BatchSizes,
     amounts: &[i64; AMOUNTS],
     c: usize,
 ) -> [u64; PROCESSES]
-    requires { ⌜ Prepared set given (now entries) (now constants) (now sizes) × CellFits (now amounts) c ⌝ }
+    requires { ⌜ Prepared set given (now entries) (now constants) sizes × CellFits (now amounts) c ⌝ }
     ensures { λ r. ⌜ r ≡ tab processes (extentAt set given (amountAt (now (amounts .entry)) c)) ⌝ }
 {
     let l = levels(amounts, c);

@@ -1,52 +1,51 @@
 // What a step does once its set, its river and its conditions have passed their checks.
 ghost use mathlib.Core.Path.{_≡_};
-ghost use Rattle.step.specs.Stepping.{Ready, refusedWith, steppedAnswer};
-use crate::apply::applied;
-use crate::cells::batches_of;
-use crate::split::too_many;
+ghost use mathlib.Core.Bool.{true, not};
+ghost use lib.IntN.{pos};
+ghost use lib.ListN.{replicate};
+ghost use Rattle.step.specs.Steps.{batchesWrong, steppedAmounts, steppedCarries};
+ghost use Rattle.step.specs.Stepping.{Ready, riverWith, answerWith};
+use crate::apply::apply_cells;
+use crate::cells::make_batches;
+use crate::split::batches_fit;
 use kinetics::Conditions;
+use river::AMOUNTS;
+use river::CARRIES;
 use river::Changed;
 use river::River;
-use river::amounts_in_bounds;
 use stoichiometry::ENTRIES;
 use stoichiometry::Set;
 
-pub(crate) fn refused(number: u32, river: River) -> Changed
-    ensures { λ r. ⌜ r ≡ refusedWith number river ⌝ }
+pub(crate) fn answered(number: u32, river: River) -> Changed
+    ensures { λ r. ⌜ r ≡ answerWith number river ⌝ }
 {
     Changed { number, river }
 }
 
-// 7 in any cell comes before 8 in any: batches of all cells are counted before an amount is made.
-pub(crate) fn stepped(
+// Writes the amounts and the carries after into lists of zeros; answers whether check 7 is passed, and if it is not, makes no
+// amount: 7 in any cell comes before 8 in any.
+pub(crate) fn step_cells(
     set: Set,
-    river: River,
     given: Conditions,
+    cells: u32,
     entries: &[i64; ENTRIES],
-) -> Changed
-    requires { ⌜ Ready set river given (now entries) ⌝ }
-    ensures { λ r. ⌜ r ≡ steppedAnswer set river given ⌝ }
+    before: &[i64; AMOUNTS],
+    carries: &[u32; CARRIES],
+    amounts: &mut [i64; AMOUNTS],
+    rest: &mut [u32; CARRIES],
+) -> bool
+    requires { ⌜ Ready set (riverWith cells (now before) (now carries)) given (now entries) × (now amounts ≡ replicate 144 (pos 0)) × (now rest ≡ replicate 136 0) ⌝ }
+    ensures { λ r. ⌜ batchesWrong set given (riverWith cells (now (before .entry)) (now (carries .entry))) ≡ not r ⌝ }
+    ensures { λ r. ⌜ (r ≡ true → now (amounts .exit) ≡ steppedAmounts set given (riverWith cells (now (before .entry)) (now (carries .entry)))) ⌝ }
+    ensures { λ r. ⌜ (r ≡ true → now (rest .exit) ≡ steppedCarries set given (riverWith cells (now (before .entry)) (now (carries .entry)))) ⌝ }
 {
-    let cells = river.cells;
     let n = cells as usize;
-    let carries = river.carries;
-    let made = batches_of(set, given, n, entries, &river.amounts, &carries);
-    if too_many(&made.whole) {
-        return refused(7, river);
-    }
-    let amounts = applied(n, &river.amounts, &made.whole, entries);
-    let carries = made.carries;
-    let after = River {
-        cells,
-        amounts,
-        carries,
-    };
-    if amounts_in_bounds(after) {
-        Changed {
-            number: 0,
-            river: after,
-        }
+    let mut whole = [0; CARRIES];
+    make_batches(set, given, n, entries, before, carries, &mut whole, rest);
+    if batches_fit(n, &whole) {
+        apply_cells(n, before, &whole, entries, amounts);
+        true
     } else {
-        refused(8, river)
+        false
     }
 }

@@ -1,14 +1,16 @@
--- `step::step_river` meets its contract: each test is a check of the definition, in its order (proofs/StepNumber.antt); what is
--- left is `stepped`. No assumptions.
+-- `step::step_river` meets its contract: each test is a check of the definition, in its order (proofs/StepNumber.antt).
+-- No assumptions.
 use mathlib.Core.Bool.{false}
-use mathlib.Core.Path.{_≡_, sym, ap, _∙_}
+use mathlib.Core.Path.{_≡_, refl, sym, ap, _∙_}
 use borrow.Author.Needs.{needs}
+use borrow.Author.Tests.{not-false}
 use Rattle.stoichiometry.specs.Parameters.{fractionsWrong, figuresWrong}
 use Rattle.stoichiometry.specs.Sets.{rowsWrong, setNumber}
 use Rattle.stoichiometry.proofs.SetNumber.{accepted-passes}
-use Rattle.river.specs.Rivers.{riverWrong}
-use Rattle.step.specs.Stepping.{refusedWith}
-use Rattle.step.proofs.StepNumber.{rows-number, rows-entries, set-refused, river-refused, conditions-refused, given-passed}
+use Rattle.river.specs.Rivers.{amountsFit, riverWrong}
+use Rattle.step.specs.Steps.{conditionsWrong}
+use Rattle.step.specs.Stepping.{riverWith, answerWith}
+use Rattle.step.proofs.StepNumber.{rows-number, rows-entries, set-refused, river-refused, conditions-refused, batches-refused, amounts-refused, step-accepted}
 use Rattle.step.proofs.step_river.Statement.{statement}
 use Rattle.step.proofs.step_river.Tie as tie
 
@@ -20,14 +22,25 @@ passed : (c : tie.Else1) → let set = c .before .before .args .set in (fraction
 passed c = let start = c .before .before in accepted-passes (start .args .set) (number-zero c)
 
 -- The river was accepted.
-river-right : (c : tie.Else2) → riverWrong (c .before .before .before .before .args .river) ≡ false
+river-right : (c : tie.Else2) → riverWrong (c .before .before .before .before .args .t2) ≡ false
 river-right c = sym (c .before .river-wrong .ensures) ∙ c .if2 .left
+
+-- The conditions were accepted; the start of the function from there.
+conditions-right : (c : tie.Else3) → conditionsWrong (c .before .before .before .before .before .before .args .given) ≡ false
+conditions-right c = sym (c .before .conditions-wrong .ensures) ∙ c .if3 .left
+
+abbrev started : tie.Else3 → tie.Start
+started c = c .before .before .before .before .before .before
+
+-- Where all that was given had passed its checks, from where the lists are lent.
+abbrev checked : tie.After-rest → tie.Else3
+checked c = let lent = c .before .before .before .before in lent .before .before .before .before
 
 rows-of-requires : tie.Need-rows-of-requires
 rows-of-requires c κs = search needs
 
-refused-requires : tie.Need-refused-requires
-refused-requires c κs = search needs
+answered-requires : tie.Need-answered-requires
+answered-requires c κs = search needs
 
 returns : tie.Need-returns
 returns c =
@@ -36,14 +49,14 @@ returns c =
     let start = made .before in
     let set = start .args .set in
     let number = rows-number set _ (made .rows-of .ensures) in
-    let wrong = set-refused set (start .args .river) (start .args .given) (λ z. tested .if1 .taken (number ∙ z)) in
-    c .refused .ensures ∙ ap (λ n. refusedWith n (start .args .river)) number ∙ sym wrong
+    let wrong = set-refused set (start .args .t2) (start .args .given) (λ z. tested .if1 .taken (number ∙ z)) in
+    c .answered .ensures ∙ ap (λ n. answerWith n (start .args .t2)) number ∙ sym wrong
 
 river-wrong-requires : tie.Need-river-wrong-requires
 river-wrong-requires c κs = search needs
 
-refused-requires-2 : tie.Need-refused-requires-2
-refused-requires-2 c κs = search needs
+answered-requires-2 : tie.Need-answered-requires-2
+answered-requires-2 c κs = search needs
 
 returns-2 : tie.Need-returns-2
 returns-2 c =
@@ -53,13 +66,13 @@ returns-2 c =
     let set = start .args .set in
     let right = passed left in
     let holds = sym (tested .before .river-wrong .ensures) ∙ tested .if2 .taken in
-    c .refused2 .ensures ∙ sym (river-refused set (start .args .river) (start .args .given) (right .0) (right .1) (right .2) holds)
+    c .answered2 .ensures ∙ sym (river-refused set (start .args .t2) (start .args .given) (right .0) (right .1) (right .2) holds)
 
 conditions-wrong-requires : tie.Need-conditions-wrong-requires
 conditions-wrong-requires c κs = search needs
 
-refused-requires-3 : tie.Need-refused-requires-3
-refused-requires-3 c κs = search needs
+answered-requires-3 : tie.Need-answered-requires-3
+answered-requires-3 c κs = search needs
 
 returns-3 : tie.Need-returns-3
 returns-3 c =
@@ -70,47 +83,101 @@ returns-3 c =
     let set = start .args .set in
     let right = passed left in
     let holds = sym (tested .before .conditions-wrong .ensures) ∙ tested .if3 .taken in
-    c .refused3 .ensures ∙ sym (conditions-refused set (start .args .river) (start .args .given) (right .0) (right .1) (right .2) (river-right known) holds)
+    c .answered3 .ensures ∙ sym (conditions-refused set (start .args .t2) (start .args .given) (right .0) (right .1) (right .2) (river-right known) holds)
 
-stepped-requires : tie.Need-stepped-requires
-stepped-requires c κs =
-    let last = c .before .before in
-    let known = last .before .before in
-    let left = known .before .before in
+step-cells-requires : tie.Need-step-cells-requires
+step-cells-requires c κs =
+    let known = checked c in
+    let left = known .before .before .before .before in
     let made = left .before in
     let set = made .before .args .set in
-    let right = passed left in
-    record {
-      fractions = right .0;
-      figures = right .1;
-      river = river-right known;
-      conditions = sym (last .before .conditions-wrong .ensures) ∙ last .if3 .left;
-      rows = rows-entries set _ (made .rows-of .ensures) (number-zero left);
-    }
+    let right = passed left in (
+      record {
+        fractions = right .0;
+        figures = right .1;
+        river = river-right (known .before .before);
+        conditions = conditions-right known;
+        rows = rows-entries set _ (made .rows-of .ensures) (number-zero left);
+      },
+      refl,
+      refl,
+    )
 
+answered-requires-4 : tie.Need-answered-requires-4
+answered-requires-4 c κs = search needs
+
+-- Refused by 7.
 returns-4 : tie.Need-returns-4
 returns-4 c =
-    let last = c .before .before .before in
-    let known = last .before .before in
-    let left = known .before .before in
-    let start = left .before .before in
-    let set = start .args .set in
-    let right = passed left in
-    let fit = sym (last .before .conditions-wrong .ensures) ∙ last .if3 .left in
-    c .stepped .ensures ∙ sym (given-passed set (start .args .river) (start .args .given) (right .0) (right .1) (right .2) (river-right known) fit)
+    let made = c .before .before in
+    let known = checked (made .before) in
+    let start = started known in
+    let right = passed (known .before .before .before .before) in
+    let holds = made .step-cells .ensures .0 ∙ c .before .if4 .taken in
+    c .answered4 .ensures
+    ∙ sym (batches-refused (start .args .set) (start .args .t2) (start .args .given) (right .0) (right .1) (right .2) (river-right (known .before .before)) (conditions-right known) holds)
+
+amounts-in-bounds-requires : tie.Need-amounts-in-bounds-requires
+amounts-in-bounds-requires c κs = search needs
+
+answered-requires-5 : tie.Need-answered-requires-5
+answered-requires-5 c κs = search needs
+
+answered-requires-6 : tie.Need-answered-requires-6
+answered-requires-6 c κs = search needs
+
+-- Stepped.
+returns-5 : tie.Need-returns-5
+returns-5 c =
+    let tested = c .before .before in
+    let fit = tested .before in
+    let made = fit .before in
+    let known = checked (made .before) in
+    let start = started known in
+    let right = passed (known .before .before .before .before) in
+    let few = made .step-cells .ensures .0 ∙ fit .if4 .left in
+    let amounts = made .step-cells .ensures .1 .0 (not-false _ (fit .if4 .left)) in
+    let carries = made .step-cells .ensures .1 .1 (not-false _ (fit .if4 .left)) in
+    let holds = sym (tested .amounts-in-bounds .ensures ∙ ap (amountsFit (start .args .t2 .cells)) amounts) ∙ c .before .if5 .taken in
+    let lent = made .step-cells .last .1 .1 .1 .1 .1 .1 in
+    let after : c .answered5 .result ≡ answerWith 0 (riverWith (start .args .t2 .cells) (lent .0) (lent .1 .0)) = c .answered5 .ensures in
+    after
+    ∙ (λ i. answerWith 0 (riverWith (start .args .t2 .cells) (amounts i) (carries i)))
+    ∙ sym (step-accepted (start .args .set) (start .args .t2) (start .args .given) (right .0) (right .1) (right .2) (river-right (known .before .before)) (conditions-right known) few holds)
+
+-- Refused by 8.
+returns-6 : tie.Need-returns-6
+returns-6 c =
+    let tested = c .before .before in
+    let fit = tested .before in
+    let made = fit .before in
+    let known = checked (made .before) in
+    let start = started known in
+    let right = passed (known .before .before .before .before) in
+    let few = made .step-cells .ensures .0 ∙ fit .if4 .left in
+    let amounts = made .step-cells .ensures .1 .0 (not-false _ (fit .if4 .left)) in
+    let holds = sym (tested .amounts-in-bounds .ensures ∙ ap (amountsFit (start .args .t2 .cells)) amounts) ∙ c .before .if5 .left in
+    c .answered6 .ensures
+    ∙ sym (amounts-refused (start .args .set) (start .args .t2) (start .args .given) (right .0) (right .1) (right .2) (river-right (known .before .before)) (conditions-right known) few holds)
 
 pub step-river-spec : {M : Type 1} → statement M
 step-river-spec =
     tie.close
     (tie.spec
     rows-of-requires
-    refused-requires
+    answered-requires
     returns
     river-wrong-requires
-    refused-requires-2
+    answered-requires-2
     returns-2
     conditions-wrong-requires
-    refused-requires-3
+    answered-requires-3
     returns-3
-    stepped-requires
-    returns-4)
+    step-cells-requires
+    answered-requires-4
+    returns-4
+    amounts-in-bounds-requires
+    answered-requires-5
+    answered-requires-6
+    returns-5
+    returns-6)

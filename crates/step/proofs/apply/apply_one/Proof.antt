@@ -31,10 +31,10 @@ added-requires c κs =
     let start = c .before in
     let k = start .args .c * 18 + start .args .s in
     let pre = start .pre in
-    (rw (kept-is (getD (start .args .amounts .now) k (pos 0)) (c .added-arg .given)) (pre .1 .most k (omega arith)), omega arith, pre .4, pre .2, pre .3, pre .5, pre .6)
+    (rw (kept-is (getD (start .args .amounts .now) k (pos 0)) (c .added-arg .given)) (pre .1 .most k (omega arith)), omega arith, pre .4, pre .2, pre .3, pre .5)
 
-mul-t16 : tie.Need-mul-t16
-mul-t16 c = search needs
+mul-t15 : tie.Need-mul-t15
+mul-t15 c = search needs
 
 element-set-from-out : tie.Need-element-set-from-out
 element-set-from-out c = search needs
@@ -58,6 +58,6 @@ apply-one-spec =
     element-copy-out-added
     mul-added-2
     added-requires
-    mul-t16
+    mul-t15
     element-set-from-out
     returns)

@@ -6,7 +6,7 @@ use Rattle.step.proofs.rates.cell_extents.Statement.{statement}
 use Rattle.step.proofs.rates.cell_extents.Tie as tie
 use Rattle.kinetics.specs.Rates.{productsOf, drivenBy}
 use Rattle.step.proofs.ExtentBounds.{conditions-fit, levels-fit}
-use Rattle.step.proofs.RatingLaws.{halves-fit, extents-fit, extents-are}
+use Rattle.step.proofs.RatingLaws.{halves-fit, extents-fit, sizes-fit, extents-are}
 
 levels-requires : tie.Need-levels-requires
 levels-requires c κs = search needs
@@ -30,10 +30,11 @@ extents-requires c κs =
     let at-levels = at-products .before in
     let entry = at-levels .before in
     let a = entry .args in
-    extents-fit (a .set) (a .given) (a .entries .now) (a .constants .now) (a .sizes .now) (entry .pre .0) (a .amounts .now) (a .c) (entry .pre .1)
-    (at-driving .driven-by .result) (at-products .products .result)
-    (at-driving .driven-by .ensures ∙ ap drivenBy (at-levels .levels .ensures))
-    (at-products .products .ensures (a .set) refl (entry .pre .0 .rows) ∙ ap (productsOf (a .set) (a .given)) (at-levels .levels .ensures))
+    let driven = at-driving .driven-by .ensures ∙ ap drivenBy (at-levels .levels .ensures) in
+    let made = at-products .products .ensures (a .set) refl (entry .pre .0 .rows) ∙ ap (productsOf (a .set) (a .given)) (at-levels .levels .ensures) in (
+      extents-fit (a .set) (a .given) (a .entries .now) (a .constants .now) (a .sizes) (entry .pre .0) (a .amounts .now) (a .c) (entry .pre .1) _ _ driven made,
+      sizes-fit (a .set) (a .given) (a .entries .now) (a .constants .now) (a .sizes) (entry .pre .0) (a .amounts .now) (a .c) (entry .pre .1) _ _ driven made,
+    )
 
 returns : tie.Need-returns
 returns c =
@@ -43,7 +44,7 @@ returns c =
     let entry = at-levels .before in
     let a = entry .args in
     rw (c .extents .ensures)
-    (extents-are (a .set) (a .given) (a .entries .now) (a .constants .now) (a .sizes .now) (entry .pre .0) (a .amounts .now) (a .c) (entry .pre .1)
+    (extents-are (a .set) (a .given) (a .entries .now) (a .constants .now) (a .sizes) (entry .pre .0) (a .amounts .now) (a .c) (entry .pre .1)
     (at-driving .driven-by .result) (at-products .products .result)
     (at-driving .driven-by .ensures ∙ ap drivenBy (at-levels .levels .ensures))
     (at-products .products .ensures (a .set) refl (entry .pre .0 .rows) ∙ ap (productsOf (a .set) (a .given)) (at-levels .levels .ensures)))

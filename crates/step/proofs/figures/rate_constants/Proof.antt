@@ -1,10 +1,10 @@
--- `rates::rate_constants` meets its contract: it lists the figures that the definition takes from a set. No assumptions.
+-- `figures::rate_constants` meets its contract: it lists the figures that the definition takes from a set. No assumptions.
 use mathlib.Core.Path.{sym}
 use native.Mathlib.Omega.{arith}
 use borrow.Author.Needs.{needs}
 use Rattle.kinetics.specs.Rates.{constantsOf}
-use Rattle.step.proofs.rates.rate_constants.Statement.{statement}
-use Rattle.step.proofs.rates.rate_constants.Tie as tie
+use Rattle.step.proofs.figures.rate_constants.Statement.{statement}
+use Rattle.step.proofs.figures.rate_constants.Tie as tie
 
 cast-aerobic : tie.Need-cast-aerobic
 cast-aerobic c = search needs

@@ -1,4 +1,4 @@
--- `step::apply::applied` meets its contract. The loop's invariant: the amounts of the first c cells are the new ones, and
+-- `step::apply::apply_cells` meets its contract. The loop's invariant: the amounts of the first c cells are the new ones, and
 -- zeros follow. No assumptions.
 use Prim.Native.Nat.{_+_, _*_, _-_, _≤_}
 use mathlib.Core.Path.{_≡_}
@@ -7,8 +7,8 @@ use lib.IntN.{pos}
 use Rattle.numeric.proofs.Filling.{FilledThen, then-none, then-run, then-done}
 use Rattle.step.specs.Stepping.{newFrom, appliedFrom}
 use Rattle.step.proofs.StepArithmetic.{new-at, new-beyond}
-use Rattle.step.proofs.apply.applied.Statement.{statement}
-use Rattle.step.proofs.apply.applied.Tie as tie
+use Rattle.step.proofs.apply.apply_cells.Statement.{statement}
+use Rattle.step.proofs.apply.apply_cells.Tie as tie
 
 abbrev Inv-loop : tie.InvT-loop
 Inv-loop n amounts whole entries out₀ c₀ out c = (c ≤ n) × FilledThen 144 (c * 18) (newFrom n amounts whole entries) (pos 0) out
@@ -17,7 +17,7 @@ abbrev μ-loop : tie.MeasureT-loop
 μ-loop n amounts whole entries out₀ c₀ out c = n - c
 
 loop-holds : tie.Need-loop-holds Inv-loop μ-loop
-loop-holds c = (omega arith, then-none 144 _ (pos 0))
+loop-holds c = (omega arith, rw (c .pre .4) (then-none 144 _ (pos 0)))
 
 apply-cell-requires : tie.Need-apply-cell-requires Inv-loop μ-loop
 apply-cell-requires c κs =
@@ -53,7 +53,7 @@ returns c =
     then-done 144 (at-loop .loop .c * 18) _ (pos 0) _ (at-loop .loop .inv .1)
     (λ k h l. new-beyond (start .args .n) (start .args .amounts .now) (start .args .whole .now) (start .args .entries .now) k (rw finished at h))
 
-pub applied-spec : {M : Type 1} → statement M
-applied-spec =
+pub apply-cells-spec : {M : Type 1} → statement M
+apply-cells-spec =
     tie.close
     (tie.spec Inv-loop μ-loop loop-holds apply-cell-requires add-c loop-less loop-again returns)

@@ -1,0 +1,65 @@
+-- `step::split::batches_fit` meets its contract. The loop's invariant: the batches of the cells passed fit. No assumptions.
+use Prim.Native.Nat.{_+_, _*_, _-_, _≤_}
+use mathlib.Core.Bool.{true}
+use mathlib.Core.Path.{_≡_, sym, _∙_}
+use native.Mathlib.Omega.{arith}
+use lib.ListN.{getD}
+use lib.IntN.{pos}
+use lib.Signed.{leZ}
+use Rattle.numeric.specs.Check.{every}
+use Rattle.numeric.proofs.CheckLaws.{every-none, every-more, every-fails}
+use Rattle.step.proofs.split.batches_fit.Statement.{statement}
+use Rattle.step.proofs.split.batches_fit.Tie as tie
+
+abbrev Inv-loop : tie.InvT-loop
+Inv-loop n whole c₀ c = (c ≤ n) × (every c (λ d. every 17 (λ p. leZ (getD whole (d * 17 + p) (pos 0)) (pos 100000))) ≡ true)
+
+abbrev μ-loop : tie.MeasureT-loop
+μ-loop n whole c₀ c = n - c
+
+loop-holds : tie.Need-loop-holds Inv-loop μ-loop
+loop-holds c = (omega arith, every-none _)
+
+mul-cell-batches-fit : tie.Need-mul-cell-batches-fit Inv-loop μ-loop
+mul-cell-batches-fit c = omega arith
+
+cell-batches-fit-requires : tie.Need-cell-batches-fit-requires Inv-loop μ-loop
+cell-batches-fit-requires c κs = omega arith
+
+add-c : tie.Need-add-c Inv-loop μ-loop
+add-c c = omega arith
+
+loop-less : tie.Need-loop-less Inv-loop μ-loop
+loop-less c = omega arith
+
+loop-again : tie.Need-loop-again Inv-loop μ-loop
+loop-again c =
+    let at-loop = c .before .before .before in
+    (omega arith, every-more _ _ (at-loop .loop .inv .1) (sym (c .before .cell-batches-fit .ensures) ∙ c .if1 .taken))
+
+-- A cell with too many.
+returns : tie.Need-returns Inv-loop μ-loop
+returns c =
+    let at-loop = c .before .before .before in
+    sym (every-fails _ (at-loop .loop .c) _ (omega arith) (sym (c .before .cell-batches-fit .ensures) ∙ c .if1 .left))
+
+-- All fit.
+returns-2 : tie.Need-returns-2 Inv-loop μ-loop
+returns-2 c =
+    let all : c .before .loop .c ≡ c .before .before .args .n = omega arith in
+    sym (rw all at (c .before .loop .inv .1))
+
+pub batches-fit-spec : {M : Type 1} → statement M
+batches-fit-spec =
+    tie.close
+    (tie.spec
+    Inv-loop
+    μ-loop
+    loop-holds
+    mul-cell-batches-fit
+    cell-batches-fit-requires
+    add-c
+    loop-less
+    loop-again
+    returns
+    returns-2)

@@ -1,0 +1,75 @@
+-- `step::split::cell_batches_fit` meets its contract. The loop's invariant: the batches of the first p processes are at most
+-- 100,000. No assumptions.
+use Prim.Native.Nat.{_+_, _-_, _≤_}
+use mathlib.Core.Bool.{true}
+use mathlib.Core.Path.{_≡_, sym}
+use native.Mathlib.Omega.{arith}
+use lib.ListN.{getD}
+use lib.IntN.{pos}
+use lib.Signed.{leZ}
+use Rattle.numeric.specs.Check.{every}
+use Rattle.numeric.proofs.Machine.{kept-is}
+use Rattle.numeric.proofs.CheckLaws.{every-none, every-more, every-fails}
+use Rattle.step.proofs.split.cell_batches_fit.Statement.{statement}
+use Rattle.step.proofs.split.cell_batches_fit.Tie as tie
+
+abbrev Inv-loop : tie.InvT-loop
+Inv-loop whole at p₀ p = (p ≤ 17) × (every p (λ q. leZ (getD whole (at + q) (pos 0)) (pos 100000)) ≡ true)
+
+abbrev μ-loop : tie.MeasureT-loop
+μ-loop whole at p₀ p = 17 - p
+
+loop-holds : tie.Need-loop-holds Inv-loop μ-loop
+loop-holds c = (omega arith, every-none _)
+
+add-if1 : tie.Need-add-if1 Inv-loop μ-loop
+add-if1 c = omega arith
+
+mul-if1 : tie.Need-mul-if1 Inv-loop μ-loop
+mul-if1 c = omega arith
+
+element-copy-out-if1 : tie.Need-element-copy-out-if1 Inv-loop μ-loop
+element-copy-out-if1 c = omega arith
+
+add-p : tie.Need-add-p Inv-loop μ-loop
+add-p c = omega arith
+
+loop-less : tie.Need-loop-less Inv-loop μ-loop
+loop-less c = omega arith
+
+loop-again : tie.Need-loop-again Inv-loop μ-loop
+loop-again c =
+    let at-loop = c .before .before .before in
+    let start = at-loop .before in
+    let x = getD (start .args .whole .now) (start .args .at + at-loop .loop .p) (pos 0) in
+    (omega arith, every-more _ _ (at-loop .loop .inv .1) (rw (kept-is x (c .before .if12 .given)) at (c .if1 .taken)))
+
+returns : tie.Need-returns Inv-loop μ-loop
+returns c =
+    let entered = c .before .before in
+    let at-loop = entered .before in
+    let start = at-loop .before in
+    let x = getD (start .args .whole .now) (start .args .at + at-loop .loop .p) (pos 0) in
+    sym (every-fails 17 (at-loop .loop .p) _ (entered .loop-test .taken) (rw (kept-is x (c .before .if12 .given)) at (c .if1 .left)))
+
+returns-2 : tie.Need-returns-2 Inv-loop μ-loop
+returns-2 c =
+    let at-loop = c .before in
+    let finished : at-loop .loop .p ≡ 17 = omega arith in
+    rw (← finished, at-loop .loop .inv .1)
+
+pub cell-batches-fit-spec : {M : Type 1} → statement M
+cell-batches-fit-spec =
+    tie.close
+    (tie.spec
+    Inv-loop
+    μ-loop
+    loop-holds
+    add-if1
+    mul-if1
+    element-copy-out-if1
+    add-p
+    loop-less
+    loop-again
+    returns
+    returns-2)
