@@ -1,5 +1,5 @@
--- Calls, answers and the book (scope, "Flow, air, load, and the book"). Nothing here knows of a river: the book is given the
--- set and, call by call, the arguments and the answer. Rivers: Held.antt. No assumptions.
+-- Calls, answers and the book (scope, "Flow, air, load, and the book"). Nothing here knows of a river: the book is
+-- given the set and, call by call, the arguments and the answer. Rivers: Held.antt. No assumptions.
 use Prim.Native.Nat.{ℕ, zero, suc, _+_, _*_, _-_}
 use mathlib.Core.Bool.{Bool, _&&_, cond}
 use mathlib.Core.List.{List, [], _∷_}

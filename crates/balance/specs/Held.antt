@@ -1,5 +1,5 @@
--- A list of calls on a river, made of the definitions that the contracts of the calls cite: the river after it, the calls
--- with their answers, and what cells hold. The theorem: proofs/Demand3.antt. No assumptions.
+-- A list of calls on a river, made of the definitions that the contracts of the calls cite: the river after it, the
+-- calls with their answers, and what cells hold. The theorem: proofs/Demand3.antt. No assumptions.
 use Prim.Native.Nat.{ℕ, suc, _+_, _-_}
 use mathlib.Core.List.{List, [], _∷_}
 use lib.IntN.{ℤ, pos}

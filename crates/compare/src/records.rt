@@ -119,8 +119,8 @@ fn write_both(river: River, output: &mut [u8], work: &mut [u8]) -> Told {
     }
 }
 
-// The record written into buffers of the lengths that a line gives, the output filled with 35 before, the work area with 42,
-// so that a byte that should stay and does not shows in the digest.
+// The record written into buffers of the lengths that a line gives, the output filled with 35 before, the work area
+// with 42, so that a byte that should stay and does not shows in the digest.
 pub(crate) fn written(line: Line, river: River) -> Told {
     let mut output = [35; ROOM];
     let mut work = [42; ROOM];

@@ -1,4 +1,5 @@
-// What the calls are made on: a set, a river and the river's record as text, each as it was changed for the next call alone.
+// What the calls are made on: a set, a river and the river's record as text, each as it was changed for the next call
+// alone.
 use crate::calls::Answer;
 use crate::calls::answer_of;
 use crate::line::Line;
@@ -12,8 +13,8 @@ use river::AMOUNTS;
 use river::CARRIES;
 use river::River;
 
-// What the next call gets: a set, a river and whether it was changed for this call alone, a text and whether it was made,
-// which is done when it is first asked for.
+// What the next call gets: a set, a river and whether it was changed for this call alone, a text and whether it was
+// made, which is done when it is first asked for.
 pub(crate) struct Given {
     figures: Figures,
     river: River,

@@ -1,5 +1,5 @@
--- Bounds of factors and products (specs/Factors.antt), millionths: a Monod or inhibition factor is at most 10^6, a product of
--- factors at most 10^6 is at most the bound of its last factor. No assumptions.
+-- Bounds of factors and products (specs/Factors.antt), millionths: a Monod or inhibition factor is at most 10^6, a
+-- product of factors at most 10^6 is at most the bound of its last factor. No assumptions.
 use Prim.Native.Nat.{ℕ, _+_, _≤_}
 use mathlib.Core.Bool.{Bool, true, false}
 use mathlib.Core.List.{List, [], _∷_, _++_}

@@ -1,5 +1,5 @@
--- Bounds of what the rates of a cell are made of (specs/Rates.antt): rate constants, half-saturations and batch sizes of a set
--- that check 2 passes, levels, products, q and extents. No assumptions.
+-- Bounds of what the rates of a cell are made of (specs/Rates.antt): rate constants, half-saturations and batch sizes
+-- of a set that check 2 passes, levels, products, q and extents. No assumptions.
 use Prim.Native.Nat.{ℕ, _*_, _≤_, _<_}
 use mathlib.Core.Bool.{Bool, true, false, _&&_, cond}
 use mathlib.Core.List.{List, [], _∷_}

@@ -1,5 +1,6 @@
--- Where uptake stands in the rows: process 1 takes up nitrogen exactly when the NH4 entry of its row is below zero, and a
--- process takes up phosphate when its HPO4 entry is, so both are read from the list of all rows. No assumptions.
+-- Where uptake stands in the rows: process 1 takes up nitrogen exactly when the NH4 entry of its row is below zero,
+-- and a process takes up phosphate when its HPO4 entry is, so both are read from the list of all rows. No
+-- assumptions.
 use Prim.Native.Nat.{ℕ, _+_, _*_, _<_, zero-le}
 use mathlib.Core.List.{[], _∷_}
 use mathlib.Core.Path.{_≡_, sym, ap, _∙_}

@@ -1,5 +1,5 @@
--- Ranges of what the rates of a cell are computed from: conditions as check 6 leaves them, the levels of amounts in their
--- bounds. Laws: proofs/RateBounds.antt. No assumptions.
+-- Ranges of what the rates of a cell are computed from: conditions as check 6 leaves them, the levels of amounts in
+-- their bounds. Laws: proofs/RateBounds.antt. No assumptions.
 use Prim.Native.Nat.{ℕ, _≤_}
 use Rattle.kinetics.specs.declared.Conditions.{Conditions}
 use Rattle.kinetics.specs.Rates.{Levels}

@@ -1,5 +1,5 @@
--- Bounds: `natAbs z ≤ b` says −b ≤ z ≤ b, in ℕ, where `omega` reads it. How bounds go through sums, products and stores,
--- and back to the order of ℤ. Bounds of whole expressions by computation: Fitting.antt. No assumptions.
+-- Bounds: `natAbs z ≤ b` says −b ≤ z ≤ b, in ℕ, where `omega` reads it. How bounds go through sums, products and
+-- stores, and back to the order of ℤ. Bounds of whole expressions by computation: Fitting.antt. No assumptions.
 use mathlib.Core.Path.{_≡_, refl, ap}
 use mathlib.Core.List.{[], _∷_}
 use Prim.Native.Nat.{ℕ, zero, suc, _+_, _*_, _^_, _≤_, _<_}

@@ -1,5 +1,6 @@
 -- An integer as a difference of two naturals, so that a statement on ℤ becomes one on ℕ, which `omega` proves: z is
--- up z − dn z, one of the two being 0, and `Rep z p n` says that z is p − n. Expressions: Expression.antt. No assumptions.
+-- up z − dn z, one of the two being 0, and `Rep z p n` says that z is p − n. Expressions: Expression.antt. No
+-- assumptions.
 use mathlib.Core.Path.{_≡_, refl, ap}
 use mathlib.Core.Bool.{Bool, true, false, not, cond}
 use Prim.Native.Nat.{ℕ, zero, suc, _+_, _-_, _*_, _≤_, _<_}

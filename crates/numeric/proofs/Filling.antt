@@ -1,6 +1,6 @@
--- Loops that fill a list: `Filled n k f l` is the invariant of a loop that stores f k at each k in turn into a list of n
--- elements, with a law for its start, a turn and its end; then the same for `run`, its elements, and `fill-run`, which takes a filling past
--- a run. No assumptions.
+-- Loops that fill a list: `Filled n k f l` is the invariant of a loop that stores f k at each k in turn into a list
+-- of n elements, with a law for its start, a turn and its end; then the same for `run`, its elements, and `fill-run`,
+-- which takes a filling past a run. No assumptions.
 use Prim.Native.Nat.{ℕ, zero, suc, _<_, _≤_, _+_}
 use mathlib.Core.List.{List}
 use mathlib.Core.Logic.{_≢_}
@@ -101,8 +101,8 @@ module _ {A : Type 0} where
       pick j h (yes l) = filled-at n k f _ d i j l
       pick j h (no g) = rest j (omega arith) h
 
-  -- A list of n elements, filled up to b and z from there on: the invariant of a loop that stores runs one after the other
-  -- and may end before the list does.
+  -- A list of n elements, filled up to b and z from there on: the invariant of a loop that stores runs one after the
+  -- other and may end before the list does.
   pub record FilledThen (n b : ℕ) (f : ℕ → A) (z : A) (l : List A) : Type 0 where
     pub filled : Filled n b f l
     pub rest : (j : ℕ) → b ≤ j → getD l j z ≡ z

@@ -1,8 +1,8 @@
--- What an expression of signed 64-bit locals computes to in the machine, and that it is the expression's value.
--- A need of the borrow checker asks of `toZ w64 (ofZ w64 ..)` at each local and each result. `mach` is that term, so from
--- h, a bound on each atom (Fitting.antt), an operation's need `SFits w64 ..` is answered by `asked h e tt`, with e the
--- operation's expression, and the result is known by `ran h e tt : mach env e ≡ eval env e`. `tt` is the test that each
--- step's bound is below 2 ^ 63. No assumptions.
+-- What an expression of signed 64-bit locals computes to in the machine, and that it is the expression's value. A
+-- need of the borrow checker asks of `toZ w64 (ofZ w64 ..)` at each local and each result. `mach` is that term, so
+-- from h, a bound on each atom (Fitting.antt), an operation's need `SFits w64 ..` is answered by `asked h e tt`, with
+-- e the operation's expression, and the result is known by `ran h e tt : mach env e ≡ eval env e`. `tt` is the test
+-- that each step's bound is below 2 ^ 63. No assumptions.
 use mathlib.Core.Path.{_≡_, refl, sym, ap, ap₂, _∙_, subst}
 use mathlib.Core.Bool.{Bool, true, false, _&&_}
 use mathlib.Core.List.{List}

@@ -1,7 +1,7 @@
--- Identities of integers by computation: `solve env l r tt : eval env l ≡ eval env r`, where the two expressions have one
--- normal form. A polynomial is a list of terms, each a coefficient and the sorted list of its atoms. That lists are sorted
--- is not proved and not needed: it only makes equal polynomials meet. Where `tt` is refused, the identity is false or an
--- atom's index is wrong. No assumptions.
+-- Identities of integers by computation: `solve env l r tt : eval env l ≡ eval env r`, where the two expressions have
+-- one normal form. A polynomial is a list of terms, each a coefficient and the sorted list of its atoms. That lists
+-- are sorted is not proved and not needed: it only makes equal polynomials meet. Where `tt` is refused, the identity
+-- is false or an atom's index is wrong. No assumptions.
 use mathlib.Core.Path.{_≡_, refl, sym, ap, ap₂, _∙_, subst}
 use mathlib.Core.Bool.{Bool, true, false, _&&_}
 use mathlib.Core.List.{List, [], _∷_}

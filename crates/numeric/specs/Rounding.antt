@@ -1,5 +1,5 @@
--- Quotients of integers: `quotZ` of lib.Signed rounds toward zero, as the machine's division does; `floorZ` rounds down.
--- On ℕ, `_/_` rounds down. Laws: proofs/Quotient.antt. No assumptions.
+-- Quotients of integers: `quotZ` of lib.Signed rounds toward zero, as the machine's division does; `floorZ` rounds
+-- down. On ℕ, `_/_` rounds down. Laws: proofs/Quotient.antt. No assumptions.
 use Prim.Native.Nat.{ℕ, _/_}
 use lib.IntN.{ℤ, pos, negsuc}
 

@@ -1,5 +1,6 @@
--- Lists given by their elements: `tab n f` has the n elements f 0 to f (n − 1). It grows at its end, as a list does that a
--- counting loop fills; `run` is what a loop leaves that stores some elements from one place on. Laws: proofs/TableLaws.antt; the invariant of such a loop: proofs/Filling.antt. No assumptions.
+-- Lists given by their elements: `tab n f` has the n elements f 0 to f (n − 1). It grows at its end, as a list does
+-- that a counting loop fills; `run` is what a loop leaves that stores some elements from one place on. Laws:
+-- proofs/TableLaws.antt; the invariant of such a loop: proofs/Filling.antt. No assumptions.
 use Prim.Native.Nat.{ℕ, zero, suc, _+_}
 use mathlib.Core.List.{List, [], _∷_, _++_}
 use lib.ListN.{set}

@@ -1,5 +1,6 @@
--- Worked cases beside those that document 01 stars (crate results), about the definitions and by computation: percentages, the
--- edges of what is accepted, whole frames. A float is given as the rounding of a fraction, or by its bits where it is an edge. No assumptions.
+-- Worked cases beside those that document 01 stars (crate results), about the definitions and by computation:
+-- percentages, the edges of what is accepted, whole frames. A float is given as the rounding of a fraction, or by its
+-- bits where it is an edge. No assumptions.
 use mathlib.Core.Path.{_≡_, refl}
 use mathlib.Core.Bool.{true, false}
 use mathlib.Core.List.{List, [], _∷_, map}
@@ -65,7 +66,8 @@ frame oxygen = record { ammonium = nearest 1 4; nitrite = minusZero; nitrate = m
 abbrev taken : OxygenAmount → Amounts
 taken oxygen = record { number = 0; ammonium = pos 5580000000000; nitrite = pos 0; nitrate = pos 0; phosphate = pos 0; oxygen = oxygen }
 
--- A mass, a percentage, a missing reading; then a saturation of 20,000,001 with a missing reading, and a reading below zero.
+-- A mass, a percentage, a missing reading; then a saturation of 20,000,001 with a missing reading, and a reading
+-- below zero.
 pub frames-hold :
     (frameAnswer (frame (Mass (nearest 9 10))) 10000000
     ∷ frameAnswer (frame (Percent (nearest 175 2))) 10000000

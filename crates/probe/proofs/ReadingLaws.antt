@@ -1,5 +1,6 @@
--- Laws of readings: the two comparisons refuse what the definition refuses; the fields of a bit pattern give the exact value,
--- scaled and rounded down; how large that is. A float's value as a fraction a / b is `HasValue x s a b`. No assumptions.
+-- Laws of readings: the two comparisons refuse what the definition refuses; the fields of a bit pattern give the
+-- exact value, scaled and rounded down; how large that is. A float's value as a fraction a / b is `HasValue x s a b`.
+-- No assumptions.
 use mathlib.Core.Path.{_≡_, refl, sym, ap, _∙_, subst}
 use Prim.Native.Nat.{ℕ, zero, suc, _+_, _-_, _*_, _/_, _%_, _^_, _≤_, _<_, zero-le}
 use native.Mathlib.Nat.{lt-of-lt-of-le, lt-of-le-of-lt, mul-assoc, mul-comm, mul-left-comm, mul-pos, mul-le-mul, mul-le-mul-left, mul-lt-mul-of-pos-right, div-eq-of-lt, div-le-self, div-div-eq-div-mul, mul-div-mul-left, zero-lt-suc, lt-of-mul-lt-mul-right, lt-of-not-le, lt-irrefl, le-of-lt, le-refl, mod-lt, zero-mul, mul-one, zero-add, div-le-of-le-mul}

@@ -1,5 +1,5 @@
--- The probe frame (scope, "Probe frame, letter, record"): what its readings become, or the number it is refused with. Laws:
--- proofs/FrameLaws.antt. No assumptions.
+-- The probe frame (scope, "Probe frame, letter, record"): what its readings become, or the number it is refused with.
+-- Laws: proofs/FrameLaws.antt. No assumptions.
 use Prim.Native.Nat.{ℕ, _*_}
 use mathlib.Core.Bool.{Bool, true, not, _&&_, cond}
 use mathlib.Core.List.{[], _∷_}

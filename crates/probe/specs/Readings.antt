@@ -1,6 +1,6 @@
--- Readings of the probe (scope, "Probe frame, letter, record" and check 9): which are refused, and the exact value of the
--- others, over whole numbers. A finite f32 `fin s m e` is m × 2 ^ e, with a minus where s is true; 2 ^ e is the fraction
--- up e / down e, both whole. Laws: proofs/ReadingLaws.antt. No assumptions.
+-- Readings of the probe (scope, "Probe frame, letter, record" and check 9): which are refused, and the exact value of
+-- the others, over whole numbers. A finite f32 `fin s m e` is m × 2 ^ e, with a minus where s is true; 2 ^ e is the
+-- fraction up e / down e, both whole. Laws: proofs/ReadingLaws.antt. No assumptions.
 use Prim.Native.Nat.{ℕ, _*_, _/_}
 use mathlib.Core.Bool.{Bool, false, not, _&&_, _||_}
 use lib.Dec.{eqb, ltb}

@@ -1,4 +1,5 @@
-// A frame's readings as amounts: a mass, or oxygen's percentage of saturation, in µg rounded down, times the grains of a µg.
+// A frame's readings as amounts: a mass, or oxygen's percentage of saturation, in µg rounded down, times the grains
+// of a µg.
 ghost use mathlib.Core.Path.{_≡_};
 ghost use mathlib.Core.Bool.{true};
 ghost use Prim.Native.Nat.{_*_, _≤_};

@@ -41,8 +41,8 @@ pub struct Amounts {
     pub oxygen: OxygenAmount,
 }
 
-// The amounts of a frame; saturation in µg of O2. Answers the number of the first check that holds (6, 9), with zeros and
-// no amount of O2. The saturation is tested for every frame, also with a mass or a missing reading.
+// The amounts of a frame; saturation in µg of O2. Answers the number of the first check that holds (6, 9), with zeros
+// and no amount of O2. The saturation is tested for every frame, also with a mass or a missing reading.
 pub fn amounts_of(frame: Frame, saturation: u32) -> Amounts
     ensures answer { λ r. ⌜ r ≡ frameAnswer frame saturation ⌝ }
 {

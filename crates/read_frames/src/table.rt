@@ -114,7 +114,8 @@ pub(crate) fn edges() {
     show(bits, Oxygen::Missing, 20000000);
 }
 
-// A saturation above 20,000,000, also with bad readings; then 256, infinities, NaNs and numbers below zero, in each place.
+// A saturation above 20,000,000, also with bad readings; then 256, infinities, NaNs and numbers below zero, in each
+// place.
 pub(crate) fn refused_frames() {
     let bits = [0x00000000, 0x00000000, 0x00000000, 0x00000000];
     show(bits, Oxygen::Missing, 20000001);

@@ -21,7 +21,8 @@ module _ (t : List ℕ) where
   abbrev pub sizeRight : Bool
   sizeRight = cellsFit (cellsIn t) && eqb (cellsIn t * cellBytes) (length t)
 
-  -- A text of another size, with a line that is none, or of a river of which check 4 holds, is no record; any other is one.
+  -- A text of another size, with a line that is none, or of a river of which check 4 holds, is no record; any other
+  -- is one.
   pub size-refused : sizeRight ≡ false → isRecord t ≡ false
   unfolding isRecord
   size-refused e = rw e refl

@@ -1,5 +1,5 @@
--- What the writes leave in a buffer: one line, the lines of a cell, one cell more, the copy; and the number of a write by
--- its checks. No assumptions.
+-- What the writes leave in a buffer: one line, the lines of a cell, one cell more, the copy; and the number of a
+-- write by its checks. No assumptions.
 use mathlib.Core.Path.{_≡_, refl, sym, ap, ap₂, _∙_}
 use mathlib.Core.Bool.{Bool, true, false, cond}
 use mathlib.Core.List.{List, [], _∷_, _++_, append-assoc, append-nil}

@@ -1,5 +1,5 @@
--- The record (scope, "Probe frame, letter, record"): its lines, the lines of a cell, the text of cells, for any number of
--- cells and lines; then a river's values and its record. Laws: proofs/LineLaws.antt. No assumptions.
+-- The record (scope, "Probe frame, letter, record"): its lines, the lines of a cell, the text of cells, for any
+-- number of cells and lines; then a river's values and its record. Laws: proofs/LineLaws.antt. No assumptions.
 use Prim.Native.Nat.{ℕ, _+_, _-_, _*_}
 use mathlib.Core.Bool.{cond}
 use mathlib.Core.List.{List, [], _∷_, _++_}

@@ -1,6 +1,6 @@
--- Reading a record (scope, "Probe frame, letter, record", check 11): a text is a record exactly when each of its lines is the
--- line of a value within limits, and check 4 does not hold of the river that has these values. Laws, that what is written is
--- read back and that nothing else is read: proofs/RecordLaws.antt. No assumptions.
+-- Reading a record (scope, "Probe frame, letter, record", check 11): a text is a record exactly when each of its
+-- lines is the line of a value within limits, and check 4 does not hold of the river that has these values. Laws,
+-- that what is written is read back and that nothing else is read: proofs/RecordLaws.antt. No assumptions.
 use Prim.Native.Nat.{ℕ, _+_, _-_, _*_, _/_, _%_}
 use mathlib.Core.Bool.{Bool, true, false, not, _&&_, cond}
 use mathlib.Core.List.{List, [], _∷_}
@@ -31,7 +31,8 @@ unfoldable pub lineNumber : List ℕ → ℕ → ℕ → ℤ → ℤ → Number
 lineNumber l cell k lowest highest =
     let n = parse lowest highest (part 6 20 l) in cond (n .ok && sameBytes l (line cell k (n .value))) n none
 
--- The limits of the value on line k, counted from 0: any amount, or a carry. The bounds of each amount are those of check 4.
+-- The limits of the value on line k, counted from 0: any amount, or a carry. The bounds of each amount are those of
+-- check 4.
 unfoldable pub lowestOn : ℕ → ℤ
 lowestOn k = cond (ltb k substances) (negℤ (pos 1000000000000000000)) (pos 0)
 

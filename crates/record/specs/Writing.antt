@@ -1,5 +1,5 @@
--- Writing a record (scope, "Probe frame, letter, record", checks 4 and 10): the number, and every byte of the output and of
--- the work area. No assumptions.
+-- Writing a record (scope, "Probe frame, letter, record", checks 4 and 10): the number, and every byte of the output
+-- and of the work area. No assumptions.
 use Prim.Native.Nat.{ℕ, _*_}
 use mathlib.Core.Bool.{Bool, _||_, cond}
 use mathlib.Core.List.{List, [], _∷_}

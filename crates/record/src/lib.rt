@@ -28,8 +28,8 @@ pub(crate) const VALUE_COLUMNS: usize = 20;
 
 pub const CELL_BYTES: usize = LINES * LINE_BYTES;
 
-// Writes the river's record to the start of the output and of the work area; bytes past it stay. Answers the number of the
-// first check that holds (4, 10), and then every byte of both is as before.
+// Writes the river's record to the start of the output and of the work area; bytes past it stay. Answers the number
+// of the first check that holds (4, 10), and then every byte of both is as before.
 pub fn write_record(river: River, output: &mut [u8], work: &mut [u8]) -> u32
     ensures answer { λ r. ⌜ r ≡ writeNumber river (length (now (output .entry))) (length (now (work .entry))) ⌝ }
     ensures output { λ r. ⌜ now (output .exit) ≡ writtenOver r river (now (output .entry)) ⌝ }

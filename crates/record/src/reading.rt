@@ -104,8 +104,8 @@ fn highest_on(k: usize) -> i64
     }
 }
 
-// The amounts and then the carries of cell c, counted from 0, if each of its lines has its value. One loop over all lines,
-// so that a line is read from one place only and the compiler sets the reading of it into the loop.
+// The amounts and then the carries of cell c, counted from 0, if each of its lines has its value. One loop over all
+// lines, so that a line is read from one place only and the compiler sets the reading of it into the loop.
 fn read_cell(
     text: &[u8],
     c: usize,

@@ -1,6 +1,6 @@
--- The results, each stated whole and cited: demand 3; the record reads back and nothing else is read; flow and air never need
--- 8; any row balances; the starred cases. The definitions to believe stand in specs/ of the crates named in the `use` lines.
--- No assumptions.
+-- The results, each stated whole and cited: demand 3; the record reads back and nothing else is read; flow and air
+-- never need 8; any row balances; the starred cases. The definitions to believe stand in specs/ of the crates named
+-- in the `use` lines. No assumptions.
 use Prim.Native.Nat.{ℕ, _*_, _≤_}
 use mathlib.Core.Bool.{false}
 use mathlib.Core.List.{List}
@@ -36,8 +36,8 @@ use Rattle.record.proofs.ReadAnswers.{read-refused}
 use Rattle.record.proofs.RecordLaws as Records
 use Rattle.results.specs.Starred.{starred}
 
--- Demand 3: after every list of loads, flows, air exchanges and steps from a fresh river of 1 to 8 cells under an accepted
--- set, the river is in its bounds, and each total that cells i to j hold is what their book says.
+-- Demand 3: after every list of loads, flows, air exchanges and steps from a fresh river of 1 to 8 cells under an
+-- accepted set, the river is in its bounds, and each total that cells i to j hold is what their book says.
 pub demand-3 : (set : Set) → Accepted set → (n : ℕ) → 1 ≤ n → n ≤ mostCells → (calls : List Call)
     → let r = after set calls (zeroRiver n) in
     (riverWrong r ≡ false) × (r .cells ≡ n)
@@ -50,7 +50,8 @@ pub record-reads-back : (r : River) → riverWrong r ≡ false → length (r .am
     → length (r .carries) ≡ mostCells * processes → readAnswer (recordOf r) ≡ record { number = 0; river = r }
 record-reads-back = Records.read-write
 
--- A text that is read is, byte for byte, the record of the river read; so two texts that read to one river are one text.
+-- A text that is read is, byte for byte, the record of the river read; so two texts that read to one river are one
+-- text.
 pub record-exact : (t : List ℕ) → readAnswer t .number ≡ 0 → t ≡ recordOf (readAnswer t .river)
 record-exact = Records.read-accepted
 

@@ -1,5 +1,5 @@
--- The cases that document 01 stars ("Checked by hand"), as one table: each value as the definitions compute it, beside the one
--- that is stated. That all of it holds: proofs/Results.antt. No assumptions.
+-- The cases that document 01 stars ("Checked by hand"), as one table: each value as the definitions compute it,
+-- beside the one that is stated. That all of it holds: proofs/Results.antt. No assumptions.
 use Prim.Native.Nat.{ℕ}
 use mathlib.Core.Bool.{false, cond}
 use mathlib.Core.List.{List, [], _∷_}

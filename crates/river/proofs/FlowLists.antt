@@ -1,5 +1,5 @@
--- What the code of flow needs of its lists: sizes of what is handed from function to function, and that what stayed with
--- what came are the amounts after. Laws of flow itself: FlowLaws.antt. No assumptions.
+-- What the code of flow needs of its lists: sizes of what is handed from function to function, and that what stayed
+-- with what came are the amounts after. Laws of flow itself: FlowLaws.antt. No assumptions.
 use Prim.Native.Nat.{ℕ, _+_, _*_, _-_, _/_, _<_, _≤_}
 use mathlib.Core.Path.{_≡_, sym, ap, _∙_}
 use mathlib.Core.Bool.{false}

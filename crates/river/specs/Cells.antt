@@ -1,5 +1,5 @@
--- One cell: its six totals under a set, and its letter (scope, "Flow, air, load, and the book" and "Probe frame, letter,
--- record"). No assumptions.
+-- One cell: its six totals under a set, and its letter (scope, "Flow, air, load, and the book" and "Probe frame,
+-- letter, record"). No assumptions.
 use Prim.Native.Nat.{ℕ, _-_}
 use mathlib.Core.Bool.{not, cond}
 use mathlib.Core.List.{List, [], _∷_}

@@ -1,5 +1,5 @@
--- Flow (scope, "Flow, air, load, and the book"): from each old amount a part passes down, the last cell's leaves; carries
--- stay. No assumptions.
+-- Flow (scope, "Flow, air, load, and the book"): from each old amount a part passes down, the last cell's leaves;
+-- carries stay. No assumptions.
 use Prim.Native.Nat.{ℕ, _*_, _-_, _/_}
 use mathlib.Core.Bool.{not, cond}
 use mathlib.Core.List.{List, [], _∷_}

@@ -1,5 +1,5 @@
--- The river (scope, "Units and substances" and "Numbers a caller may get"): the bounds of its amounts and carries, check 4,
--- a fresh river, and the level of a substance. Laws: proofs/. No assumptions.
+-- The river (scope, "Units and substances" and "Numbers a caller may get"): the bounds of its amounts and carries,
+-- check 4, a fresh river, and the level of a substance. Laws: proofs/. No assumptions.
 use Prim.Native.Nat.{ℕ, _+_, _*_, _/_, _%_}
 use mathlib.Core.Bool.{Bool, not, _&&_, cond}
 use mathlib.Core.List.{List, [], _∷_, map}
@@ -77,8 +77,8 @@ carriesFit n carries =
 unfoldable pub cellsFit : ℕ → Bool
 cellsFit n = leb 1 n && leb n mostCells
 
--- Check 4: a river is not of 1 to 8 cells, or holds an amount or carry outside its bounds, or anything but zeros beyond its
--- last cell.
+-- Check 4: a river is not of 1 to 8 cells, or holds an amount or carry outside its bounds, or anything but zeros
+-- beyond its last cell.
 unfoldable pub riverWrong : River → Bool
 riverWrong r = not (cellsFit (r .cells) && amountsFit (r .cells) (r .amounts) && carriesFit (r .cells) (r .carries))
 
@@ -107,7 +107,7 @@ weightOf xp = grainsPerMicrogramP
 weightOf h2o = 1
 weightOf n2 = 1
 
--- The customer's "level", µg: an amount divided by W, rounded down; of an organic, its amount. Amounts that have a level
--- are not negative.
+-- The customer's "level", µg: an amount divided by W, rounded down; of an organic, its amount. Amounts that have a
+-- level are not negative.
 unfoldable pub levelOf : Substance → ℤ → ℕ
 levelOf s amount = natAbs amount / weightOf s

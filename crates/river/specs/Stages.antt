@@ -1,6 +1,6 @@
--- What the inner functions of flow ask of amounts and hand to each other: sizes (scope, "Units and substances": the widest
--- bound), and the amounts on their way from before to after. That a river which check 4 does not refuse has such amounts,
--- and that the last stage is the amounts after: proofs/FlowLists.antt. No assumptions.
+-- What the inner functions of flow ask of amounts and hand to each other: sizes (scope, "Units and substances": the
+-- widest bound), and the amounts on their way from before to after. That a river which check 4 does not refuse has
+-- such amounts, and that the last stage is the amounts after: proofs/FlowLists.antt. No assumptions.
 use Prim.Native.Nat.{ℕ, _+_, _-_, _*_, _<_, _≤_}
 use mathlib.Core.List.{List}
 use lib.ListN.{getD}

@@ -37,8 +37,8 @@ pub const AMOUNTS: usize = 144;
 
 pub const CARRIES: usize = 136;
 
-// A train of cells. Amount s of cell c, both counted from 0, stands at c * 18 + s: organics in µg, the others in grains,
-// per cubic metre. Carry p of cell c stands at c * 17 + p: millionths of a batch.
+// A train of cells. Amount s of cell c, both counted from 0, stands at c * 18 + s: organics in µg, the others in
+// grains, per cubic metre. Carry p of cell c stands at c * 17 + p: millionths of a batch.
 pub struct River {
     pub cells: u32,
     pub amounts: [i64; AMOUNTS],
@@ -46,8 +46,8 @@ pub struct River {
 }
 
 impl River {
-    // The bounds of amounts: organics from 0 in µg, other substances from 0 in grains, the net changes H+ and H2O either
-    // way in grains. Carries are below one batch, in millionths.
+    // The bounds of amounts: organics from 0 in µg, other substances from 0 in grains, the net changes H+ and H2O
+    // either way in grains. Carries are below one batch, in millionths.
     pub const ORGANIC_MOST: i64 = 1000000000;
 
     pub const GRAINS_MOST: i64 = 10000000000000000;
@@ -106,7 +106,8 @@ pub struct Flowed {
     pub left: [i64; AMOUNTS],
 }
 
-// The river after air, and the signed amount of O2 it brought, grains; on refusal the number, the river handed in, and 0.
+// The river after air, and the signed amount of O2 it brought, grains; on refusal the number, the river handed in,
+// and 0.
 pub struct Aired {
     pub number: u32,
     pub river: River,

@@ -49,8 +49,8 @@ closureE =
     ⊕ ((# (pos 9765) ⊗ v 12 ⊖ # (pos 26040) ⊗ v 10 ⊖ # (pos 78120) ⊗ v 11 ⊕ # (pos 16740) ⊗ v 13 ⊖ # (pos 12600) ⊗ v 14) ⊗ v 4
     ⊕ # (pos 0))))))
 
--- Half of what one of nitrogen does to the weighted sum where it goes to nitrate instead of ammonium, to nitrite instead
--- of ammonium, to nitrate instead of nitrite.
+-- Half of what one of nitrogen does to the weighted sum where it goes to nitrate instead of ammonium, to nitrite
+-- instead of ammonium, to nitrate instead of nitrite.
 abbrev toNitrateE : Ex
 toNitrateE = # (pos 2) ⊗ v 2 ⊖ # (pos 2) ⊗ v 0 ⊖ # (pos 4) ⊗ v 4 ⊕ # (pos 2) ⊗ v 8 ⊕ # (pos 4) ⊗ v 6
 

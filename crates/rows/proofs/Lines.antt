@@ -1,5 +1,5 @@
--- Each process of Rows.antt against its line in the tables of specs/Code.antt: its organic changes, for any weight of an
--- organic, and what it does besides its closure. The rows made of these lines: Coded.antt. No assumptions.
+-- Each process of Rows.antt against its line in the tables of specs/Code.antt: its organic changes, for any weight of
+-- an organic, and what it does besides its closure. The rows made of these lines: Coded.antt. No assumptions.
 use Prim.Native.Nat.{ℕ, _*_, _-_, _<_, _≤_}
 use mathlib.Core.Bool.{cond}
 use mathlib.Core.List.{List, [], _∷_}
@@ -92,8 +92,8 @@ kindOf q =
     kind (asNitrate (q .nitrogen)) (asNitrite (q .nitrogen)) (nh4Oxidised (q .further)) (no2Oxidised (q .further))
     (hpo4Adsorbed (q .further)) (by-no3no2 (q .acceptor)) (by-no2n2 (q .acceptor)) (by-no3n2 (q .acceptor))
 
--- The organic changes of a process against its line in the table of changes, for any weight of an organic: all eight, and
--- the three that the code reads; and its kind.
+-- The organic changes of a process against its line in the table of changes, for any weight of an organic: all eight,
+-- and the three that the code reads; and its kind.
 pub record Line (set : Set) (p : ℕ) (q : Process) : Type 0 where
   pub all-eight : (w : ℕ → ℤ) →
       let d = changeAt set p in

@@ -1,5 +1,5 @@
--- What checks 1 and 2 give to the arithmetic of rows: a set that passes them is in range (`ranged`), and of a set in range
--- the lines of specs/Code.antt hold small numbers (`changes-small`, `kind-small`). No assumptions.
+-- What checks 1 and 2 give to the arithmetic of rows: a set that passes them is in range (`ranged`), and of a set in
+-- range the lines of specs/Code.antt hold small numbers (`changes-small`, `kind-small`). No assumptions.
 use Prim.Native.Nat.{ℕ, _+_, _*_, _-_, _≤_, _<_}
 use mathlib.Core.Bool.{true, false, _&&_}
 use mathlib.Core.List.{List, _++_}

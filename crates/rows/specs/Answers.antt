@@ -1,5 +1,5 @@
--- What `rows_of` answers: all rows of a set, or the number of its refusal. The number of a set and its rows are defined in
--- crate stoichiometry (specs/Sets.antt, specs/Rows.antt). No assumptions.
+-- What `rows_of` answers: all rows of a set, or the number of its refusal. The number of a set and its rows are
+-- defined in crate stoichiometry (specs/Sets.antt, specs/Rows.antt). No assumptions.
 use Prim.Native.Nat.{ℕ, _*_}
 use mathlib.Core.Bool.{cond}
 use lib.Dec.{eqb}

@@ -1,6 +1,6 @@
--- How the code lays the processes out: a line of organic changes and one of numbers for each, which the code writes as the
--- arguments of its calls, and the arithmetic of a row without a division. Inner definitions that nobody need believe:
--- proofs/Coded.antt ties them to Rows.antt. No assumptions.
+-- How the code lays the processes out: a line of organic changes and one of numbers for each, which the code writes
+-- as the arguments of its calls, and the arithmetic of a row without a division. Inner definitions that nobody need
+-- believe: proofs/Coded.antt ties them to Rows.antt. No assumptions.
 use Prim.Native.Nat.{ℕ, _+_, _*_, _-_, _/_, _%_, _≤_}
 use mathlib.Core.Bool.{Bool, true, not, _&&_, cond}
 use mathlib.Core.List.{List, [], _∷_}

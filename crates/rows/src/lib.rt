@@ -1,5 +1,5 @@
-// The rows of the 17 processes of a set, and the number of a set. Every call answers for every input; a set that is refused
-// gives its number (1, 2 or 3) and nothing else.
+// The rows of the 17 processes of a set, and the number of a set. Every call answers for every input; a set that is
+// refused gives its number (1, 2 or 3) and nothing else.
 ghost use mathlib.Core.Path.{_≡_};
 ghost use Rattle.stoichiometry.specs.Sets.{setNumber};
 ghost use Rattle.rows.specs.Answers.{rowsAnswer, refusedRows};

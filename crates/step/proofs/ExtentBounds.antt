@@ -1,5 +1,5 @@
--- No extent of a cell whose amounts are in their bounds is too large for the machine: conditions that check 6 passes are in
--- their ranges, and so are the levels of such a cell. No assumptions.
+-- No extent of a cell whose amounts are in their bounds is too large for the machine: conditions that check 6 passes
+-- are in their ranges, and so are the levels of such a cell. No assumptions.
 use Prim.Native.Nat.{ℕ, _≤_, _<_}
 use mathlib.Core.Bool.{Bool, true, false, _&&_}
 use mathlib.Core.List.{List}

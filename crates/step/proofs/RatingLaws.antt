@@ -1,5 +1,5 @@
--- What the code of a cell's extents may use (specs/Rating.antt): uptake as it stands in the rows, conditions and levels in
--- range after the checks, rate constants and batch sizes by place. No assumptions.
+-- What the code of a cell's extents may use (specs/Rating.antt): uptake as it stands in the rows, conditions and
+-- levels in range after the checks, rate constants and batch sizes by place. No assumptions.
 use Prim.Native.Nat.{ℕ, _+_, _*_, _-_, _/_, _%_, _≤_, _<_}
 use mathlib.Core.Bool.{false}
 use mathlib.Core.List.{List}
@@ -102,8 +102,8 @@ amount-nonneg amounts c fits s h =
     let counted : netAt s ≡ false = rw (ne-eqb s (place hPlus) (h .notHPlus), ne-eqb s (place h2o) (h .notH2o)) in
     fits-level s (amountAt amounts c s) (h .within) counted (fits .amount s (h .within)) .0
 
--- One cell of a step that is prepared, with X and the products of its levels: the extents fit the machine, and are those of
--- the definition.
+-- One cell of a step that is prepared, with X and the products of its levels: the extents fit the machine, and are
+-- those of the definition.
 module _ (set : Set) (given : Conditions) (entries : List ℤ) (ks : List ℕ) (b : BatchSizes) (ready : Prepared set given entries ks b)
     (amounts : List ℤ) (c : ℕ) (fits : CellFits amounts c) (xs ps : List ℕ) (driven : xs ≡ drivenBy (levelsOf (amountAt amounts c)))
     (made : ps ≡ productsOf set given (levelsOf (amountAt amounts c))) where

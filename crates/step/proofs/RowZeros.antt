@@ -1,5 +1,6 @@
--- Entries that no set has: a substance is changed by some processes only, those that Stepping.antt names. For each substance a
--- column of zeros, computed but for NH4 and O2, whose changes cancel; then the law that the columns give. No assumptions.
+-- Entries that no set has: a substance is changed by some processes only, those that Stepping.antt names. For each
+-- substance a column of zeros, computed but for NH4 and O2, whose changes cancel; then the law that the columns give.
+-- No assumptions.
 use Prim.Native.Nat.{ℕ, _+_, _*_, _/_, _<_}
 use mathlib.Core.Bool.{false, cond}
 use mathlib.Core.List.{List, [], _∷_}

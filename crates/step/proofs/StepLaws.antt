@@ -1,5 +1,5 @@
--- What the inner functions of the step make, in terms of the step's definitions: amounts and carries after, check 7, and
--- what a river that passes check 4 gives to the arithmetic. No assumptions.
+-- What the inner functions of the step make, in terms of the step's definitions: amounts and carries after, check 7,
+-- and what a river that passes check 4 gives to the arithmetic. No assumptions.
 use Prim.Native.Nat.{ℕ, _+_, _*_, _/_, _%_, _≤_, _<_}
 use mathlib.Core.Bool.{Bool, true, false, not, cond}
 use mathlib.Core.List.{List}

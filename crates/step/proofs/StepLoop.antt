@@ -1,5 +1,5 @@
--- The loop over the cells that makes whole batches and new carries, on plain values: what a cell's extents are, and where
--- what they leave stands in the lists. No assumptions.
+-- The loop over the cells that makes whole batches and new carries, on plain values: what a cell's extents are, and
+-- where what they leave stands in the lists. No assumptions.
 use Prim.Native.Nat.{ℕ, _+_, _*_, _/_, _%_, _≤_, _<_}
 use mathlib.Core.List.{List}
 use mathlib.Core.Path.{_≡_}

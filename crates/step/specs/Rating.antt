@@ -1,6 +1,6 @@
--- What the code of a cell's extents works on and what it may assume (src/factors.rt, products.rt, figures.rt, rates.rt). Inner
--- definitions: the contract of `rates::cell_extents` names kinetics' `extentAt` alone. Laws: proofs/RatingLaws.antt.
--- No assumptions.
+-- What the code of a cell's extents works on and what it may assume (src/factors.rt, products.rt, figures.rt,
+-- rates.rt). Inner definitions: the contract of `rates::cell_extents` names kinetics' `extentAt` alone. Laws:
+-- proofs/RatingLaws.antt. No assumptions.
 use Prim.Native.Nat.{ℕ, _+_, _*_, _/_, _≤_, _<_}
 use mathlib.Core.Bool.{Bool, true, false}
 use mathlib.Core.List.{List, [], _∷_}
@@ -61,8 +61,8 @@ sizesIn b =
 abbrev pub extentFrom : List ℕ → List ℕ → List ℕ → ℕ → ℕ → ℕ → ℕ
 extentFrom xs ks ps p size seconds = getD xs p 0 * quota (getD ks p 0) (getD ps p 0) seconds / size
 
--- They fit the machine: X at most the most of a level, rate constants at most 20,000, products at most 4,000,000, seconds at
--- most 3,600.
+-- They fit the machine: X at most the most of a level, rate constants at most 20,000, products at most 4,000,000,
+-- seconds at most 3,600.
 pub record ExtentsFit (xs ks ps : List ℕ) (seconds : ℕ) : Type 0 where
   pub driving : (p : ℕ) → getD xs p 0 ≤ mostLevel
   pub constants : (p : ℕ) → getD ks p 0 ≤ 20000
@@ -81,8 +81,8 @@ pub record HalvesFit (h : HalfSaturations) : Type 0 where
   pub xn2 : (1 ≤ h .xn2 .o2) × (1 ≤ h .xn2 .no2) × (1 ≤ h .xn2 .phosphate)
   pub algae : (1 ≤ h .algae .o2) × (1 ≤ h .algae .nitrogen) × (1 ≤ h .algae .nh4) × (1 ≤ h .algae .phosphate)
 
--- What a step has before it goes through the cells: set and conditions that checks 2 and 6 pass, and made of the set its
--- rows, rate constants and 1,000 × b.
+-- What a step has before it goes through the cells: set and conditions that checks 2 and 6 pass, and made of the set
+-- its rows, rate constants and 1,000 × b.
 pub record Prepared (set : Set) (given : Conditions) (entries : List ℤ) (ks : List ℕ) (b : BatchSizes) : Type 0 where
   pub figures : figuresWrong set ≡ false
   pub conditions : conditionsWrong given ≡ false

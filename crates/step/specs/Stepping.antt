@@ -1,5 +1,5 @@
--- What the inner functions of the step are held to: numbers in reach, and what one turn adds. Inner definitions; the step
--- itself is Steps.antt. No assumptions.
+-- What the inner functions of the step are held to: numbers in reach, and what one turn adds. Inner definitions; the
+-- step itself is Steps.antt. No assumptions.
 use Prim.Native.Nat.{ℕ, zero, suc, _+_, _*_, _/_, _%_, _≤_, _<_}
 use mathlib.Core.Bool.{Bool, true, false, cond}
 use mathlib.Core.List.{List, [], _∷_}

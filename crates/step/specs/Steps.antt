@@ -1,5 +1,5 @@
--- The step (scope, "One step"): extents, carries and whole batches of each cell, from its old amounts alone; checks 6, 7
--- and 8. Laws: proofs/. No assumptions.
+-- The step (scope, "One step"): extents, carries and whole batches of each cell, from its old amounts alone; checks
+-- 6, 7 and 8. Laws: proofs/. No assumptions.
 use Prim.Native.Nat.{ℕ, _+_, _*_, _/_, _%_}
 use mathlib.Core.Bool.{Bool, not, _&&_, cond}
 use mathlib.Core.List.{List, [], _∷_}

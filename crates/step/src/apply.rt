@@ -31,8 +31,8 @@ fn added_by(
     }
 }
 
-// An amount of the substance at place s, and the batches from `at` on times the entries. The binary digits of `changing` say
-// which processes change the substance, process 1 last.
+// An amount of the substance at place s, and the batches from `at` on times the entries. The binary digits of
+// `changing` say which processes change the substance, process 1 last.
 fn added(
     start: i64,
     whole: &[i64; CARRIES],
@@ -72,8 +72,8 @@ fn apply_one(
     out[k] = added(amounts[k], whole, c * PROCESSES, entries, s, changing);
 }
 
-// The new amounts of cell c, substance by substance, SS to N2: places and the processes that change each are written out, so
-// that each sum has its terms alone.
+// The new amounts of cell c, substance by substance, SS to N2: places and the processes that change each are written
+// out, so that each sum has its terms alone.
 pub(crate) fn apply_cell(
     amounts: &[i64; AMOUNTS],
     whole: &[i64; CARRIES],

@@ -24,8 +24,8 @@ mod rates;
 mod split;
 mod stepping;
 
-// One step of all cells together. Answers the river after, or the number of the first check that holds (1 to 4, 6, 7, 8)
-// and the river handed in.
+// One step of all cells together. Answers the river after, or the number of the first check that holds (1 to 4, 6, 7,
+// 8) and the river handed in.
 pub fn step_river(set: Set, river: River, given: Conditions) -> Changed
     ensures answer { λ r. ⌜ r ≡ stepAnswer set river given ⌝ }
 {

@@ -22,8 +22,8 @@ pub(crate) fn answered(number: u32, river: River) -> Changed
     Changed { number, river }
 }
 
-// Writes the amounts and the carries after into lists of zeros; answers whether check 7 is passed, and if it is not, makes no
-// amount: 7 in any cell comes before 8 in any.
+// Writes the amounts and the carries after into lists of zeros; answers whether check 7 is passed, and if it is not,
+// makes no amount: 7 in any cell comes before 8 in any.
 pub(crate) fn step_cells(
     set: Set,
     given: Conditions,

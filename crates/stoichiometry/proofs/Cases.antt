@@ -1,5 +1,6 @@
--- Worked cases of sets and rows beside those that document 01 stars (crate results): row 6 leaves NO2 alone, the inert part of
--- row 14 is not cut, the published set is accepted. A table about the definitions, and that all of it holds. No assumptions.
+-- Worked cases of sets and rows beside those that document 01 stars (crate results): row 6 leaves NO2 alone, the
+-- inert part of row 14 is not cut, the published set is accepted. A table about the definitions, and that all of it
+-- holds. No assumptions.
 use mathlib.Core.List.{List, [], _∷_}
 use mathlib.Core.Path.{refl}
 use lib.IntN.{pos}

@@ -1,5 +1,5 @@
--- The number of a set (specs/Sets.antt), a law for each case: the first check that holds, or none; and what an accepted set has
--- passed. No assumptions.
+-- The number of a set (specs/Sets.antt), a law for each case: the first check that holds, or none; and what an
+-- accepted set has passed. No assumptions.
 use mathlib.Core.Bool.{true, false}
 use mathlib.Core.List.{[]}
 use mathlib.Core.Path.{_≡_, sym, _∙_}

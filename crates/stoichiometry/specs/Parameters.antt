@@ -1,5 +1,5 @@
--- Parameter sets: checks 1 and 2 (scope, "Numbers a caller may get") and the published set (scope, "Units and substances";
--- Tables 6 and 7 of document 000). Check 3 looks at rows: Sets.antt. No assumptions.
+-- Parameter sets: checks 1 and 2 (scope, "Numbers a caller may get") and the published set (scope, "Units and
+-- substances"; Tables 6 and 7 of document 000). Check 3 looks at rows: Sets.antt. No assumptions.
 use Prim.Native.Nat.{ℕ, _+_}
 use mathlib.Core.Bool.{Bool, not, _&&_}
 use mathlib.Core.List.{List, [], _∷_}

@@ -1,7 +1,7 @@
--- The rows (scope, "Rows, per batch"), in its words and order: released elements, closure, the nitrogen's form, E, the three
--- acceptors, the organic changes of the 17 processes with m and b. A row is the list of its changes; the entry of a
--- substance is all changes that name it, added. Laws: proofs/Balance.antt (any row holds matter and charge),
--- proofs/Exact.antt (no division here rounds), proofs/EntryBounds.antt. No assumptions.
+-- The rows (scope, "Rows, per batch"), in its words and order: released elements, closure, the nitrogen's form, E,
+-- the three acceptors, the organic changes of the 17 processes with m and b. A row is the list of its changes; the
+-- entry of a substance is all changes that name it, added. Laws: proofs/Balance.antt (any row holds matter and
+-- charge), proofs/Exact.antt (no division here rounds), proofs/EntryBounds.antt. No assumptions.
 use Prim.Native.Nat.{ℕ, _*_, _/_, _%_, _-_}
 use mathlib.Core.Bool.{cond}
 use mathlib.Core.List.{List, [], _∷_, _++_, map}
@@ -110,8 +110,8 @@ acceptorFor nitrateToN2 e =
 pub data Asked : Type 0 where
   consumesO2 takesUpNothing unasked : Asked
 
--- A process: its organic changes, the nitrogen's form, what it turns over besides, its acceptor, the batch size b (the µg
--- by which the organic that X names changes), and what check 3 asks of it.
+-- A process: its organic changes, the nitrogen's form, what it turns over besides, its acceptor, the batch size b
+-- (the µg by which the organic that X names changes), and what check 3 asks of it.
 pub record Process : Type 0 where
   pub changes : List (Change Organic)
   pub nitrogen : Nitrogen

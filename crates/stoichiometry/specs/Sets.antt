@@ -1,5 +1,5 @@
--- What the calls on sets answer (scope, "Numbers a caller may get"): check 3, the number of a set, an accepted set, and the
--- answer of `Set::published`. The answer of the rows: crate rows. No assumptions.
+-- What the calls on sets answer (scope, "Numbers a caller may get"): check 3, the number of a set, an accepted set,
+-- and the answer of `Set::published`. The answer of the rows: crate rows. No assumptions.
 use Prim.Native.Nat.{ℕ}
 use mathlib.Core.Bool.{Bool, true, not, _&&_, cond}
 use mathlib.Core.List.{[], _∷_}

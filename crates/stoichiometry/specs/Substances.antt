@@ -1,6 +1,6 @@
--- The substances (scope, "Units and substances"): their order, what one of each holds, and the contents of a number of one.
--- A grain, the customer's unit of a substance that is no organic, is 1/312,480 nmol; organics are in µg of organic matter.
--- Laws: proofs/Contents.antt. No assumptions.
+-- The substances (scope, "Units and substances"): their order, what one of each holds, and the contents of a number
+-- of one. A grain, the customer's unit of a substance that is no organic, is 1/312,480 nmol; organics are in µg of
+-- organic matter. Laws: proofs/Contents.antt. No assumptions.
 use Prim.Native.Nat.{ℕ, _*_}
 use mathlib.Core.List.{List, [], _∷_, map}
 use lib.ListN.{getD}
@@ -50,7 +50,8 @@ place xp = 15
 place h2o = 16
 place n2 = 17
 
--- Grains of an element's substance in one µg of the element, the customer's W: O in O2, N in NH4, NO2 or NO3, P in HPO4 or XP.
+-- Grains of an element's substance in one µg of the element, the customer's W: O in O2, N in NH4, NO2 or NO3, P in
+-- HPO4 or XP.
 abbrev pub grainsPerMicrogramO : ℕ
 grainsPerMicrogramO = 9765000
 

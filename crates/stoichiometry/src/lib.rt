@@ -69,8 +69,8 @@ pub struct AlgaeRates {
     pub death: u32,
 }
 
-// Rate constants, thousandths per day. `aerobic` and `anoxic` are of XH; processes 1 and 2 share one, 4 and 5 one, every
-// other process has its own.
+// Rate constants, thousandths per day. `aerobic` and `anoxic` are of XH; processes 1 and 2 share one, 4 and 5 one,
+// every other process has its own.
 pub struct RateConstants {
     pub aerobic: GrowthRates,
     pub anoxic: GrowthRates,

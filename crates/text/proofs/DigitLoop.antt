@@ -1,5 +1,6 @@
--- The loop over the digits, which are counted without a test of the number at each: `Turn` is its invariant, with laws for
--- its start, for one digit more and for two, and for each exit; then the answer for a number. No assumptions.
+-- The loop over the digits, which are counted without a test of the number at each: `Turn` is its invariant, with
+-- laws for its start, for one digit more and for two, and for each exit; then the answer for a number. No
+-- assumptions.
 use Prim.Native.Nat.{ℕ, zero, suc, _+_, _-_, _*_, _^_, _≤_, _<_}
 use mathlib.Core.Bool.{Bool, true, false, _&&_}
 use mathlib.Core.List.{List}

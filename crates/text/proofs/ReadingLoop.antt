@@ -1,5 +1,5 @@
--- What the reading functions do at each byte: the blanks, the mark, a zero. `stuck` is a return at a byte that no number has
--- there, `ended` the end of the text. The digits after them: DigitLoop.antt. No assumptions.
+-- What the reading functions do at each byte: the blanks, the mark, a zero. `stuck` is a return at a byte that no
+-- number has there, `ended` the end of the text. The digits after them: DigitLoop.antt. No assumptions.
 use Prim.Native.Nat.{ℕ, _+_, _-_, _*_, _≤_, _<_}
 use mathlib.Core.Bool.{Bool, true, false}
 use mathlib.Core.List.{List}

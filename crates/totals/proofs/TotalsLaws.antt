@@ -1,5 +1,6 @@
--- Totals of a cell: a turn of the loop that adds them up; what a cell of a right river holds under an accepted set is small
--- enough to be added in 64 bits; the answer by cases of its number, where it is what the code adds up. No assumptions.
+-- Totals of a cell: a turn of the loop that adds them up; what a cell of a right river holds under an accepted set is
+-- small enough to be added in 64 bits; the answer by cases of its number, where it is what the code adds up. No
+-- assumptions.
 use Prim.Native.Nat.{ℕ, zero, suc, _<_, _≤_, _+_, _*_, _-_, _^_}
 use mathlib.Core.Bool.{Bool, true, false, not, cond}
 use mathlib.Core.List.{List, [], _∷_, map}

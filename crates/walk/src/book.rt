@@ -1,5 +1,5 @@
-// The book: six totals for each cell, kept of the calls and their answers. What a list of amounts or a number of a substance
-// contains is asked of a river that holds that and nothing else.
+// The book: six totals for each cell, kept of the calls and their answers. What a list of amounts or a number of a
+// substance contains is asked of a river that holds that and nothing else.
 use river::AMOUNTS;
 use river::CARRIES;
 use river::CELLS;

@@ -1,4 +1,5 @@
--- `read_record` meets its contract: each return is one case of what a record is (proofs/ReadAnswers.antt). No assumptions.
+-- `read_record` meets its contract: each return is one case of what a record is (proofs/ReadAnswers.antt). No
+-- assumptions.
 use mathlib.Core.Path.{_≡_, refl, sym, ap, _∙_}
 use mathlib.Core.Bool.{true}
 use Prim.Native.Nat.{_/_}

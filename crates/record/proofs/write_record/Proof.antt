@@ -1,5 +1,5 @@
--- `write_record` meets its contract: each return is one case of the checks in their order; the output is the record of the
--- cells, and the work area its copy (proofs/Written.antt). No assumptions.
+-- `write_record` meets its contract: each return is one case of the checks in their order; the output is the record
+-- of the cells, and the work area its copy (proofs/Written.antt). No assumptions.
 use mathlib.Core.Path.{_≡_, refl, sym, _∙_}
 use mathlib.Core.Bool.{false}
 use lib.ListN.{length}

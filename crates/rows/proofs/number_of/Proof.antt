@@ -1,5 +1,5 @@
--- `rows::number_of` meets its contract: each test is a check of the definition, and the first that holds gives the number.
--- No assumptions.
+-- `rows::number_of` meets its contract: each test is a check of the definition, and the first that holds gives the
+-- number. No assumptions.
 use mathlib.Core.Bool.{false}
 use mathlib.Core.Path.{_≡_, sym, _∙_}
 use borrow.Author.Needs.{needs}

@@ -1,5 +1,5 @@
--- `rows::rows_of` meets its contract: each test is a check of the definition; the first that holds gives the refusal, and
--- where none does the rows are those that were filled in. No assumptions.
+-- `rows::rows_of` meets its contract: each test is a check of the definition; the first that holds gives the refusal,
+-- and where none does the rows are those that were filled in. No assumptions.
 use mathlib.Core.Bool.{false}
 use mathlib.Core.Path.{_≡_, sym, _∙_}
 use borrow.Author.Needs.{needs}

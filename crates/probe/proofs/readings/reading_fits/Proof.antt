@@ -1,4 +1,5 @@
--- `readings::reading_fits` meets its contract: the comparisons with 0 and with 256 are the definition's. No assumptions.
+-- `readings::reading_fits` meets its contract: the comparisons with 0 and with 256 are the definition's. No
+-- assumptions.
 use lib.Ieee.{ofBits}
 use Rattle.probe.proofs.ReadingLaws.{fits-from-zero, fits-below-zero}
 use Rattle.probe.proofs.readings.reading_fits.Statement.{statement}

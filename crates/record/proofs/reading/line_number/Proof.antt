@@ -1,5 +1,5 @@
--- `reading::line_number` meets its contract: the line feed, what stands before the value, and the value (proofs/LineLaws.antt).
--- No assumptions.
+-- `reading::line_number` meets its contract: the line feed, what stands before the value, and the value
+-- (proofs/LineLaws.antt). No assumptions.
 use mathlib.Core.Path.{_≡_, sym, ap, _∙_}
 use Prim.Native.Nat.{ℕ, _+_, _-_}
 use native.Mathlib.Omega.{arith}

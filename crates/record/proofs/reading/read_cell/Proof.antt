@@ -1,5 +1,5 @@
--- `reading::read_cell` meets its contract. The loop's invariant: the first k lines have their values, which are stored: those
--- of the first 18 lines as amounts, those past them as carries. No assumptions.
+-- `reading::read_cell` meets its contract. The loop's invariant: the first k lines have their values, which are
+-- stored: those of the first 18 lines as amounts, those past them as carries. No assumptions.
 use Prim.Native.Nat.{ℕ, _+_, _-_, _*_, _≤_, _<_}
 use mathlib.Core.Path.{_≡_, sym, ap, ap₂, _∙_}
 use mathlib.Core.Bool.{true, false≢true}

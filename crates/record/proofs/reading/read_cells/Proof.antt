@@ -1,5 +1,5 @@
--- `reading::read_cells` meets its contract. The loop's invariant: every line of the first c cells has its value; these are
--- stored, and zeros follow. No assumptions.
+-- `reading::read_cells` meets its contract. The loop's invariant: every line of the first c cells has its value;
+-- these are stored, and zeros follow. No assumptions.
 use Prim.Native.Nat.{_+_, _*_, _-_, _≤_}
 use mathlib.Core.Path.{_≡_, sym, _∙_}
 use mathlib.Core.Bool.{true, false≢true}

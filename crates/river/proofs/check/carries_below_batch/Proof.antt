@@ -1,5 +1,5 @@
--- `check::carries_below_batch` meets its contract. The loop's invariant: whether the carries passed are below one batch.
--- No assumptions.
+-- `check::carries_below_batch` meets its contract. The loop's invariant: whether the carries passed are below one
+-- batch. No assumptions.
 use Prim.Native.Nat.{ℕ, _≤_, _-_}
 use mathlib.Core.Bool.{_&&_}
 use mathlib.Core.Path.{_≡_, sym, ap, _∙_}

@@ -1,5 +1,5 @@
--- `flow::add_came` meets its contract. The loop's invariant: what left is added to the first k amounts from the second cell
--- on. No assumptions.
+-- `flow::add_came` meets its contract. The loop's invariant: what left is added to the first k amounts from the
+-- second cell on. No assumptions.
 use Prim.Native.Nat.{ℕ, _+_, _-_, _*_, _≤_}
 use mathlib.Core.Path.{_≡_, ap, _∙_}
 use native.Mathlib.Omega.{arith}

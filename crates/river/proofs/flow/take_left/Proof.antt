@@ -1,4 +1,5 @@
--- `flow::take_left` meets its contract. The loop's invariant: what left is taken from the first k amounts. No assumptions.
+-- `flow::take_left` meets its contract. The loop's invariant: what left is taken from the first k amounts. No
+-- assumptions.
 use Prim.Native.Nat.{ℕ, _-_, _≤_}
 use mathlib.Core.Path.{_≡_, sym, ap, _∙_}
 use native.Mathlib.Nat.{zero-add}

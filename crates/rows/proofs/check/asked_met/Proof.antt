@@ -1,5 +1,5 @@
--- `rows::check::asked_met` meets its contract: the tests on `asked` decide the case of the definition, and the numbers that
--- are compared are elements that were read. No assumptions.
+-- `rows::check::asked_met` meets its contract: the tests on `asked` decide the case of the definition, and the
+-- numbers that are compared are elements that were read. No assumptions.
 use Prim.Native.Nat.{ℕ, _+_, _*_}
 use lib.ListN.{getD}
 use lib.IntN.{ℤ, pos}

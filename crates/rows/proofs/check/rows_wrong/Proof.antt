@@ -1,5 +1,5 @@
--- `rows::check::rows_wrong` meets its contract. The loop's invariant: every process before `p` has what is asked of it; one
--- that has not ends the loop with `true`. The measure is what is left of the processes. No assumptions.
+-- `rows::check::rows_wrong` meets its contract. The loop's invariant: every process before `p` has what is asked of
+-- it; one that has not ends the loop with `true`. The measure is what is left of the processes. No assumptions.
 use Prim.Native.Nat.{_≤_, _-_}
 use mathlib.Core.Bool.{true, not}
 use mathlib.Core.Path.{_≡_, sym, ap}

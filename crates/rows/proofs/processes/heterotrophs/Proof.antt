@@ -1,5 +1,5 @@
--- `rows::processes::heterotrophs` meets its contract: what is called with are the lines of 1 to 6, and each row is stored
--- after the one before. No assumptions.
+-- `rows::processes::heterotrophs` meets its contract: what is called with are the lines of 1 to 6, and each row is
+-- stored after the one before. No assumptions.
 use mathlib.Core.Path.{_≡_, refl, _∙_}
 use lib.Dec.{lit<, lit≤}
 use lib.IntN.{pos, negℤ}

@@ -1,5 +1,5 @@
--- `rows::processes::nitrifiers` meets its contract: what is called with are the lines of 7 to 10, and each row is stored
--- after the one before. No assumptions.
+-- `rows::processes::nitrifiers` meets its contract: what is called with are the lines of 7 to 10, and each row is
+-- stored after the one before. No assumptions.
 use mathlib.Core.Path.{_≡_, refl, _∙_}
 use lib.Dec.{lit<, lit≤}
 use lib.IntN.{ℤ, pos, negℤ}

@@ -1,5 +1,5 @@
--- `rows::row::released_part` meets its contract: each step of the sum fits. The changes and the fractions are v 0 to v 5,
--- a change before its fraction. No assumptions.
+-- `rows::row::released_part` meets its contract: each step of the sum fits. The changes and the fractions are v 0 to
+-- v 5, a change before its fraction. No assumptions.
 use mathlib.Core.List.{[], _∷_}
 use lib.IntN.{pos}
 use Rattle.numeric.proofs.Expression.{v, _⊕_, _⊗_}

@@ -1,6 +1,6 @@
--- `step::apply::added` meets its contract. The loop's invariant: the total is the start and what the first p processes add, and
--- the digits that are left are those from place p on; each process adds at most 2.5 × 10^17, so that 17 of them and an amount fit
--- 64 bits. No assumptions.
+-- `step::apply::added` meets its contract. The loop's invariant: the total is the start and what the first p
+-- processes add, and the digits that are left are those from place p on; each process adds at most 2.5 × 10^17, so
+-- that 17 of them and an amount fit 64 bits. No assumptions.
 use Prim.Native.Nat.{ℕ, _+_, _-_, _≤_, _<_}
 use mathlib.Core.Path.{_≡_, refl, sym, ap, _∙_}
 use native.Mathlib.Omega.{arith}

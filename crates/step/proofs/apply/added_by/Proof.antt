@@ -1,5 +1,5 @@
--- `step::apply::added_by` meets its contract: what a process adds is at most 100,000 × 2.5 × 10^12; one that does not change the
--- substance has no entry for it. No assumptions.
+-- `step::apply::added_by` meets its contract: what a process adds is at most 100,000 × 2.5 × 10^12; one that does not
+-- change the substance has no entry for it. No assumptions.
 use Prim.Native.Nat.{_+_, _*_}
 use mathlib.Core.Path.{sym, _∙_}
 use native.Mathlib.Omega.{arith}

@@ -1,5 +1,5 @@
--- `step::apply::apply_cell` meets its contract: 18 amounts are stored one after the other, so the cell's run grows by one with
--- each call; `start` of a place is the function's start. No assumptions.
+-- `step::apply::apply_cell` meets its contract: 18 amounts are stored one after the other, so the cell's run grows by
+-- one with each call; `start` of a place is the function's start. No assumptions.
 use Prim.Native.Nat.{ℕ, _+_, _*_}
 use mathlib.Core.List.{List}
 use mathlib.Core.Path.{_≡_, refl, _∙_}

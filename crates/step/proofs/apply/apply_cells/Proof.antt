@@ -1,5 +1,5 @@
--- `step::apply::apply_cells` meets its contract. The loop's invariant: the amounts of the first c cells are the new ones, and
--- zeros follow. No assumptions.
+-- `step::apply::apply_cells` meets its contract. The loop's invariant: the amounts of the first c cells are the new
+-- ones, and zeros follow. No assumptions.
 use Prim.Native.Nat.{_+_, _*_, _-_, _≤_}
 use mathlib.Core.Path.{_≡_}
 use native.Mathlib.Omega.{arith}

@@ -1,5 +1,5 @@
--- `step::cells::make_batches` meets its contract. The loop's invariant: whole batches and carries of the first c cells are made,
--- and zeros follow in both lists. No assumptions.
+-- `step::cells::make_batches` meets its contract. The loop's invariant: whole batches and carries of the first c
+-- cells are made, and zeros follow in both lists. No assumptions.
 use Prim.Native.Nat.{_+_, _*_, _-_, _≤_, _<_}
 use mathlib.Core.Path.{_≡_, refl}
 use native.Mathlib.Omega.{arith}

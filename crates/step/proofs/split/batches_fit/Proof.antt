@@ -1,4 +1,5 @@
--- `step::split::batches_fit` meets its contract. The loop's invariant: the batches of the cells passed fit. No assumptions.
+-- `step::split::batches_fit` meets its contract. The loop's invariant: the batches of the cells passed fit. No
+-- assumptions.
 use Prim.Native.Nat.{_+_, _*_, _-_, _≤_}
 use mathlib.Core.Bool.{true}
 use mathlib.Core.Path.{_≡_, sym, _∙_}

@@ -1,5 +1,5 @@
--- `step::split::cell_batches_fit` meets its contract. The loop's invariant: the batches of the first p processes are at most
--- 100,000. No assumptions.
+-- `step::split::cell_batches_fit` meets its contract. The loop's invariant: the batches of the first p processes are
+-- at most 100,000. No assumptions.
 use Prim.Native.Nat.{_+_, _-_, _≤_}
 use mathlib.Core.Bool.{true}
 use mathlib.Core.Path.{_≡_, sym}

@@ -1,5 +1,5 @@
--- `step::split::split` meets its contract. The loop's invariant: each list is that at the start after the first p were stored.
--- The measure is what is left of the cell. No assumptions.
+-- `step::split::split` meets its contract. The loop's invariant: each list is that at the start after the first p
+-- were stored. The measure is what is left of the cell. No assumptions.
 use Prim.Native.Nat.{_+_, _/_, _%_, _-_, _≤_}
 use mathlib.Core.Path.{_≡_, refl}
 use native.Mathlib.Omega.{arith}

@@ -1,5 +1,5 @@
--- `step::stepping::step_cells` meets its contract: the batches, the amounts and the carries that were made are those of the
--- definitions (proofs/StepLaws.antt). No assumptions.
+-- `step::stepping::step_cells` meets its contract: the batches, the amounts and the carries that were made are those
+-- of the definitions (proofs/StepLaws.antt). No assumptions.
 use mathlib.Core.Bool.{not}
 use mathlib.Core.Path.{refl, sym, ap, _∙_}
 use Rattle.river.specs.declared.River.{River}

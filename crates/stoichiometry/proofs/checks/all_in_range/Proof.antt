@@ -1,5 +1,6 @@
 -- `checks::all_in_range` meets its contract. The loop's invariant: `i` is at most the length, and every figure before
--- `i` is in range; a figure outside ends the loop with `false`. The measure is what is left of the length. No assumptions.
+-- `i` is in range; a figure outside ends the loop with `false`. The measure is what is left of the length. No
+-- assumptions.
 use Prim.Native.Nat.{_≤_, _-_}
 use mathlib.Core.Bool.{true, and-false}
 use mathlib.Core.Path.{_≡_, sym}

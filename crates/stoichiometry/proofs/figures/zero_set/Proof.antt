@@ -1,4 +1,5 @@
--- `figures::zero_set` meets its contract: it is the definition's record, with what its calls ensure put in. No assumptions.
+-- `figures::zero_set` meets its contract: it is the definition's record, with what its calls ensure put in. No
+-- assumptions.
 use borrow.Author.Needs.{needs}
 use Rattle.stoichiometry.proofs.figures.zero_set.Statement.{statement}
 use Rattle.stoichiometry.proofs.figures.zero_set.Tie as tie

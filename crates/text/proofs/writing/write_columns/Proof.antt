@@ -1,5 +1,5 @@
--- `writing::write_columns` meets its contract. The loop's invariant: the i columns still to come hold blanks, and written
--- over what is there they give the result. No assumptions.
+-- `writing::write_columns` meets its contract. The loop's invariant: the i columns still to come hold blanks, and
+-- written over what is there they give the result. No assumptions.
 use Prim.Native.Nat.{ℕ, _+_, _-_, _/_, _≤_}
 use mathlib.Core.List.{List}
 use mathlib.Core.Path.{_≡_, refl, sym, ap, _∙_, subst}
