@@ -2,8 +2,8 @@
 -- law air-never-eight. No assumptions.
 use Prim.Native.Nat.{_-_, _≤_}
 use native.Mathlib.Omega.{arith}
-use mathlib.Core.Bool.{true, false, not, _&&_}
-use mathlib.Core.Path.{_≡_, sym, ap, ap₂, _∙_}
+use mathlib.Core.Bool.{true, false, not}
+use mathlib.Core.Path.{_≡_, sym, _∙_}
 use borrow.Author.Needs.{needs, sfits-of}
 use borrow.Author.Tests.{not-false}
 use lib.Dec.{lit<}
@@ -18,7 +18,7 @@ use Rattle.stoichiometry.specs.Substances.{o2, place}
 use Rattle.river.specs.Rivers.{mostCells, amountFits, amountAt, riverWrong}
 use Rattle.river.specs.Load.{cellExists}
 use Rattle.river.specs.Air.{gainAt, airFigureWrong, airNumber, airAnswer}
-use Rattle.river.proofs.Rivers.{wrong-parts, river-cells, amount-fits-at, cell-bound}
+use Rattle.river.proofs.Rivers.{wrong-tested, river-cells, amount-fits-at, cell-bound}
 use Rattle.river.proofs.AirLaws.{oxygen-bound, air-never-eight}
 use Rattle.river.proofs.air_river.Statement.{statement}
 use Rattle.river.proofs.air_river.Tie as tie
@@ -30,8 +30,7 @@ wrong : (c : tie.After-both) → riverWrong (begun c .args .river) ≡ not (c .b
 wrong c =
     let carries = c .before in
     let amounts = carries .before .before .before in
-    wrong-parts (begun c .args .river)
-    ∙ ap not (sym (c .both .ensures ∙ ap₂ _&&_ (amounts .amounts-right .ensures) (carries .carries-right .ensures)))
+    wrong-tested (begun c .args .river) _ _ _ (amounts .amounts-right .ensures) (carries .carries-right .ensures) (c .both .ensures)
 
 right : (c : tie.Else1) → riverWrong (begun (c .before) .args .river) ≡ false
 right c = wrong (c .before) ∙ c .if1 .left

@@ -1,11 +1,11 @@
 -- `flow_river` meets its contract: it refuses with 4 or 6, the first check that holds; where neither does, 8 does
 -- not hold either, so the answer is the amounts after and what left. No assumptions.
-use mathlib.Core.Bool.{false, not, _&&_}
-use mathlib.Core.Path.{_≡_, sym, ap, ap₂, _∙_}
+use mathlib.Core.Bool.{false, not}
+use mathlib.Core.Path.{_≡_, sym, _∙_}
 use lib.Dec.{lit<}
 use lib.ListN.{length}
 use Rattle.river.specs.Rivers.{riverWrong}
-use Rattle.river.proofs.Rivers.{wrong-parts, river-cells}
+use Rattle.river.proofs.Rivers.{wrong-tested, river-cells}
 use Rattle.river.proofs.FlowLaws.{flow-number-river, flow-number-part, flow-number-accepted, flow-refused, flow-accepted}
 use Rattle.river.proofs.FlowLists.{river-small, left-small}
 use borrow.Author.Needs.{needs}
@@ -19,8 +19,7 @@ wrong : (c : tie.After-both) → riverWrong (begun c .args .river) ≡ not (c .b
 wrong c =
     let carries = c .before in
     let amounts = carries .before .before .before in
-    wrong-parts (begun c .args .river)
-    ∙ ap not (sym (c .both .ensures ∙ ap₂ _&&_ (amounts .amounts-right .ensures) (carries .carries-right .ensures)))
+    wrong-tested (begun c .args .river) _ _ _ (amounts .amounts-right .ensures) (carries .carries-right .ensures) (c .both .ensures)
 
 right : (c : tie.Else1) → riverWrong (begun (c .before) .args .river) ≡ false
 right c = wrong (c .before) ∙ c .if1 .left

@@ -1,8 +1,7 @@
 -- `river_wrong` meets its contract: check 4 in two parts. No assumptions.
-use mathlib.Core.Bool.{not, _&&_}
-use mathlib.Core.Path.{sym, ap, ap₂, _∙_}
+use mathlib.Core.Path.{sym}
 use borrow.Author.Needs.{needs}
-use Rattle.river.proofs.Rivers.{wrong-parts}
+use Rattle.river.proofs.Rivers.{wrong-tested}
 use Rattle.river.proofs.river_wrong.Statement.{statement}
 use Rattle.river.proofs.river_wrong.Tie as tie
 
@@ -20,9 +19,7 @@ returns c =
     let carries = c .before in
     let amounts = carries .before .before .before in
     let river = amounts .before .before .before .args .t1 in
-    sym
-    (wrong-parts river
-    ∙ ap not (sym (c .both .ensures ∙ ap₂ _&&_ (amounts .amounts-right .ensures) (carries .carries-right .ensures))))
+    sym (wrong-tested river _ _ _ (amounts .amounts-right .ensures) (carries .carries-right .ensures) (c .both .ensures))
 
 pub river-wrong-spec : {M : Type 1} → statement M
 river-wrong-spec =
