@@ -51,6 +51,7 @@ pub mod scene;
 mod sets;
 mod steps;
 mod text;
+pub mod uptakes;
 
 use scene::Scene;
 

@@ -2,6 +2,7 @@
 //! sets a move away from them.
 
 use reference::lists::{random_neighbour, random_set, Random};
+use reference::vectors::uptakes::{least_uptakes, no_uptakes};
 use reference::{check, rows, Fractions, Set};
 
 /// Thousandth-µg of an element released by some organic changes.
@@ -79,4 +80,15 @@ fn each_condition() {
         }
     }
     assert!(alone.iter().enumerate().all(|(i, &count)| i == 5 || count > 0), "{alone:?}");
+}
+
+#[test]
+fn the_least_uptake_of_one_substance_is_refused() {
+    for (place, set) in (11..).zip(least_uptakes()) {
+        let holding: Vec<usize> = (0..19).filter(|&i| conditions(&set)[i]).collect();
+        assert_eq!((check(&set), holding), (3, vec![place]));
+    }
+    for set in no_uptakes() {
+        assert_eq!((check(&set), conditions(&set)), (0, [false; 19]));
+    }
 }

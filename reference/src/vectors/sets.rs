@@ -3,6 +3,7 @@
 
 use super::figures::{figures_of, FIGURES, HALVES, INERT, RATES, YIELDS};
 use super::scene::Scene;
+use super::uptakes::{least_uptakes, no_uptakes};
 use crate::lists::{random_halves, random_neighbour, random_rates};
 use crate::sets::{Fractions, Halves, Rates, Set};
 
@@ -59,6 +60,7 @@ pub fn limits(scene: &mut Scene) {
     several_faults(scene, &figures);
     nothing_left_over(scene);
     zero_entries(scene);
+    uptakes(scene);
 }
 
 /// The first fault in checking order is told; sums do not wrap at 32 bits.
@@ -159,6 +161,14 @@ fn zero_entries(scene: &mut Scene) {
         scene.begin(&set);
         scene.fresh(1);
         scene.load(1, 10, 900_000);
+        all_calls(scene, &[]);
+    }
+}
+
+fn uptakes(scene: &mut Scene) {
+    for set in least_uptakes().iter().chain(&no_uptakes()) {
+        scene.begin(set);
+        scene.fresh(1);
         all_calls(scene, &[]);
     }
 }
