@@ -11,6 +11,7 @@ use crate::writing::magnitude;
 use crate::writing::mark_of;
 use crate::writing::write_plain;
 
+mod digits;
 mod reading;
 mod writing;
 

@@ -6,7 +6,10 @@ ghost use lib.ListN.{length};
 ghost use lib.IntN.{natAbs};
 ghost use Rattle.text.specs.Writes.{put};
 ghost use Rattle.text.specs.Decimals.{glyph, nextMark, columns, plain, markOf};
-ghost use Rattle.text.specs.Stages.{Blank, pair, four};
+ghost use Rattle.text.specs.Stages.{Blank};
+use crate::digits::write_below_10000;
+use crate::digits::write_four;
+use crate::digits::write_mark;
 
 // The byte of a column for what is left of the number there: its last digit, or the mark where nothing is left.
 pub(crate) fn glyph(rest: u64, mark: u8) -> u8
@@ -59,7 +62,7 @@ fn write_blanks(out: &mut [u8], at: usize, width: usize)
 
 // The digits of n and its mark in columns that hold blanks, one column a turn: the last digits where there are fewer
 // columns than digits.
-fn write_singles(out: &mut [u8], at: usize, width: usize, mark: u8, n: u64)
+pub(crate) fn write_singles(out: &mut [u8], at: usize, width: usize, mark: u8, n: u64)
     requires { ⌜ at + width ≤ length (now out) ⌝ }
     requires { ⌜ Blank (now out) at width ⌝ }
     ensures { λ _. ⌜ now (out .exit) ≡ put (now (out .entry)) at (columns width mark n) ⌝ }
@@ -79,102 +82,6 @@ fn write_singles(out: &mut [u8], at: usize, width: usize, mark: u8, n: u64)
         m = next_mark(rest, m);
         rest = rest / 10;
     }
-}
-
-// Two digits.
-fn write_pair(out: &mut [u8], at: usize, n: u32)
-    requires { ⌜ (n < 100) × (at + 2 ≤ length (now out)) ⌝ }
-    ensures { λ _. ⌜ now (out .exit) ≡ put (now (out .entry)) at (pair n) ⌝ }
-{
-    let tens = n / 10;
-    let second = at + 1;
-    out[at] = b'0' + tens as u8;
-    // The remainder by the quotient, so that there is one division; so in the functions below.
-    out[second] = b'0' + (n - tens * 10) as u8;
-}
-
-// Four digits.
-fn write_four(out: &mut [u8], at: usize, n: u32)
-    requires { ⌜ (n < 10000) × (at + 4 ≤ length (now out)) ⌝ }
-    ensures { λ _. ⌜ now (out .exit) ≡ put (now (out .entry)) at (four n) ⌝ }
-{
-    let hundreds = n / 100;
-    write_pair(out, at, hundreds);
-    write_pair(out, at + 2, n - hundreds * 100);
-}
-
-// The mark in columns that hold blanks.
-fn write_mark(out: &mut [u8], at: usize, width: usize, mark: u8)
-    requires { ⌜ at + width ≤ length (now out) ⌝ }
-    requires { ⌜ Blank (now out) at width ⌝ }
-    ensures { λ _. ⌜ now (out .exit) ≡ put (now (out .entry)) at (columns width mark 0) ⌝ }
-{
-    if mark == b' ' {
-        return;
-    }
-    if width == 0 {
-        return;
-    }
-    let last = at + (width - 1);
-    out[last] = mark;
-}
-
-// A number of at most one digit and its mark in columns that hold blanks. No digit where it is 0.
-fn write_below_10(out: &mut [u8], at: usize, width: usize, mark: u8, n: u32)
-    requires { ⌜ (n < 10) × (at + width ≤ length (now out)) ⌝ }
-    requires { ⌜ Blank (now out) at width ⌝ }
-    ensures { λ _. ⌜ now (out .exit) ≡ put (now (out .entry)) at (columns width mark n) ⌝ }
-{
-    if n == 0 {
-        write_mark(out, at, width, mark);
-        return;
-    }
-    if width == 0 {
-        return;
-    }
-    let before = width - 1;
-    let last = at + before;
-    out[last] = b'0' + n as u8;
-    write_mark(out, at, before, mark);
-}
-
-// At most two digits.
-fn write_below_100(out: &mut [u8], at: usize, width: usize, mark: u8, n: u32)
-    requires { ⌜ (n < 100) × (at + width ≤ length (now out)) ⌝ }
-    requires { ⌜ Blank (now out) at width ⌝ }
-    ensures { λ _. ⌜ now (out .exit) ≡ put (now (out .entry)) at (columns width mark n) ⌝ }
-{
-    if n < 10 {
-        write_below_10(out, at, width, mark, n);
-        return;
-    }
-    if width < 2 {
-        write_singles(out, at, width, mark, n as u64);
-        return;
-    }
-    let before = width - 2;
-    write_pair(out, at + before, n);
-    write_mark(out, at, before, mark);
-}
-
-// At most four digits.
-fn write_below_10000(out: &mut [u8], at: usize, width: usize, mark: u8, n: u32)
-    requires { ⌜ (n < 10000) × (at + width ≤ length (now out)) ⌝ }
-    requires { ⌜ Blank (now out) at width ⌝ }
-    ensures { λ _. ⌜ now (out .exit) ≡ put (now (out .entry)) at (columns width mark n) ⌝ }
-{
-    if n < 100 {
-        write_below_100(out, at, width, mark, n);
-        return;
-    }
-    if width < 2 {
-        write_singles(out, at, width, mark, n as u64);
-        return;
-    }
-    let before = width - 2;
-    let hundreds = n / 100;
-    write_pair(out, at + before, n - hundreds * 100);
-    write_below_100(out, at, before, mark, hundreds);
 }
 
 // The digits of n and its mark in columns that hold blanks.

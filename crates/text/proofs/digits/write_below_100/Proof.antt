@@ -1,4 +1,4 @@
--- `writing::write_below_100` meets its contract: one digit, too few columns, two digits. No assumptions.
+-- `digits::write_below_100` meets its contract: one digit, too few columns, two digits. No assumptions.
 use Prim.Native.Nat.{ℕ, _+_, _-_, _/_}
 use mathlib.Core.List.{List}
 use mathlib.Core.Path.{_≡_, sym, ap₂, _∙_, subst}
@@ -9,8 +9,8 @@ use Rattle.text.specs.Decimals.{columns}
 use Rattle.text.specs.Stages.{Blank, pair}
 use Rattle.text.proofs.DigitLaws.{blank-put, pair-turn}
 use borrow.Author.Needs.{needs}
-use Rattle.text.proofs.writing.write_below_100.Statement.{statement}
-use Rattle.text.proofs.writing.write_below_100.Tie as tie
+use Rattle.text.proofs.digits.write_below_100.Statement.{statement}
+use Rattle.text.proofs.digits.write_below_100.Tie as tie
 
 write-below-10-requires : tie.Need-write-below-10-requires
 write-below-10-requires c κs = search needs

@@ -1,12 +1,12 @@
--- `writing::write_pair` meets its contract. No assumptions.
+-- `digits::write_pair` meets its contract. No assumptions.
 use Prim.Native.Nat.{_/_}
 use mathlib.Core.Path.{refl}
 use native.Mathlib.Omega.{arith}
 use lib.ListN.{length-set}
 use Rattle.text.proofs.DigitLaws.{pair-stored}
 use borrow.Author.Needs.{needs}
-use Rattle.text.proofs.writing.write_pair.Statement.{statement}
-use Rattle.text.proofs.writing.write_pair.Tie as tie
+use Rattle.text.proofs.digits.write_pair.Statement.{statement}
+use Rattle.text.proofs.digits.write_pair.Tie as tie
 
 add-second : tie.Need-add-second
 add-second c = search needs

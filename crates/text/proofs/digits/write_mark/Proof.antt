@@ -1,11 +1,11 @@
--- `writing::write_mark` meets its contract: nothing to write, no column to write in, the mark. No assumptions.
+-- `digits::write_mark` meets its contract: nothing to write, no column to write in, the mark. No assumptions.
 use mathlib.Core.Path.{refl, sym}
 use native.Mathlib.Omega.{arith}
 use Rattle.text.proofs.DecimalLaws.{columns-end, blank-end}
 use Rattle.text.proofs.DigitLaws.{mark-stored}
 use borrow.Author.Needs.{needs}
-use Rattle.text.proofs.writing.write_mark.Statement.{statement}
-use Rattle.text.proofs.writing.write_mark.Tie as tie
+use Rattle.text.proofs.digits.write_mark.Statement.{statement}
+use Rattle.text.proofs.digits.write_mark.Tie as tie
 
 returns : tie.Need-returns
 returns c =

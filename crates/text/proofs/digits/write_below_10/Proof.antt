@@ -1,4 +1,4 @@
--- `writing::write_below_10` meets its contract: no digit, no column to write in, one digit. No assumptions.
+-- `digits::write_below_10` meets its contract: no digit, no column to write in, one digit. No assumptions.
 use Prim.Native.Nat.{ℕ, _+_, _-_}
 use mathlib.Core.Path.{_≡_, sym, ap, _∙_}
 use native.Mathlib.Omega.{arith}
@@ -8,8 +8,8 @@ use Rattle.text.specs.Decimals.{columns}
 use Rattle.text.proofs.DecimalLaws.{columns-end, blank-set}
 use Rattle.text.proofs.DigitLaws.{digit-turn}
 use borrow.Author.Needs.{needs}
-use Rattle.text.proofs.writing.write_below_10.Statement.{statement}
-use Rattle.text.proofs.writing.write_below_10.Tie as tie
+use Rattle.text.proofs.digits.write_below_10.Statement.{statement}
+use Rattle.text.proofs.digits.write_below_10.Tie as tie
 
 write-mark-requires : tie.Need-write-mark-requires
 write-mark-requires c κs = search needs

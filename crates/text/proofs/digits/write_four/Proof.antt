@@ -1,4 +1,4 @@
--- `writing::write_four` meets its contract: two pairs. No assumptions.
+-- `digits::write_four` meets its contract: two pairs. No assumptions.
 use Prim.Native.Nat.{ℕ, _+_, _-_, _*_, _/_}
 use mathlib.Core.List.{List}
 use mathlib.Core.Path.{refl, ap, _∙_}
@@ -6,8 +6,8 @@ use Rattle.text.specs.Writes.{put}
 use Rattle.text.specs.Stages.{pair}
 use Rattle.text.proofs.DigitLaws.{four-written}
 use borrow.Author.Needs.{needs}
-use Rattle.text.proofs.writing.write_four.Statement.{statement}
-use Rattle.text.proofs.writing.write_four.Tie as tie
+use Rattle.text.proofs.digits.write_four.Statement.{statement}
+use Rattle.text.proofs.digits.write_four.Tie as tie
 
 write-pair-requires : tie.Need-write-pair-requires
 write-pair-requires c κs = search needs
