@@ -1,12 +1,10 @@
 // The checksum of answers. What it takes of an answer depends on the turn, so that no part of it can be left out.
+use numeric::magnitude;
 use river::AMOUNTS;
 use river::CARRIES;
 use std::num::wrapping_add_u64;
 use std::num::wrapping_sub_u64;
 use stoichiometry::SUBSTANCES;
-
-// No number of an answer is further from 0 than this.
-const MOST: i64 = 9000000000000000000;
 
 // The checksum with one number more. It is turned by a bit first, so that the order of the numbers counts.
 pub(crate) fn with(sum: u64, number: u64) -> u64 {
@@ -14,23 +12,12 @@ pub(crate) fn with(sum: u64, number: u64) -> u64 {
     wrapping_add_u64(turned, number)
 }
 
-// A number without its sign.
-fn size(x: i64) -> u64 {
-    if x < -MOST {
-        return u64::MAX;
-    }
-    if MOST < x {
-        return u64::MAX;
-    }
-    if x < 0 { (-x) as u64 } else { x as u64 }
-}
-
 // The checksum with one signed number more, modulo 2^64.
 pub(crate) fn with_signed(sum: u64, x: i64) -> u64 {
     if x < 0 {
-        with(sum, wrapping_sub_u64(0, size(x)))
+        with(sum, wrapping_sub_u64(0, magnitude(x)))
     } else {
-        with(sum, size(x))
+        with(sum, magnitude(x))
     }
 }
 

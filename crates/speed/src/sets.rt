@@ -2,16 +2,11 @@
 // batches, and with other yields and half-saturations in each set.
 use kinetics::Conditions;
 use kinetics::Temperatures;
-use stoichiometry::AerobicHalfSaturations;
-use stoichiometry::AlgaeHalfSaturations;
 use stoichiometry::AlgaeRates;
-use stoichiometry::AnoxicHalfSaturations;
 use stoichiometry::GrowthRates;
 use stoichiometry::HalfSaturations;
 use stoichiometry::RateConstants;
 use stoichiometry::Set;
-use stoichiometry::Xn1HalfSaturations;
-use stoichiometry::Xn2HalfSaturations;
 use stoichiometry::Yields;
 
 pub(crate) const SETS: usize = 8;
@@ -42,44 +37,9 @@ fn rates() -> RateConstants {
     }
 }
 
-// Every half-saturation k, µg.
-fn half_saturations(k: u32) -> HalfSaturations {
-    HalfSaturations {
-        aerobic: AerobicHalfSaturations {
-            ss: k,
-            o2: k,
-            nitrogen: k,
-            phosphate: k,
-        },
-        anoxic: AnoxicHalfSaturations {
-            ss: k,
-            o2: k,
-            no3: k,
-            no2: k,
-            phosphate: k,
-        },
-        xn1: Xn1HalfSaturations {
-            o2: k,
-            nh4: k,
-            phosphate: k,
-        },
-        xn2: Xn2HalfSaturations {
-            o2: k,
-            no2: k,
-            phosphate: k,
-        },
-        algae: AlgaeHalfSaturations {
-            o2: k,
-            nitrogen: k,
-            nh4: k,
-            phosphate: k,
-        },
-    }
-}
-
 fn set_of(i: u32) -> Set {
     let other = i % 8;
-    let published = Set::published(rates(), half_saturations(200000 + other));
+    let published = Set::published(rates(), HalfSaturations::all(200000 + other));
     let mut set = published.set;
     let yields = Yields {
         aerobic: 60 + other,

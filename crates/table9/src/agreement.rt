@@ -3,6 +3,7 @@ ghost use mathlib.Core.Path.{_≡_};
 ghost use Prim.Native.Nat.{_≤_};
 ghost use lib.IntN.{natAbs};
 ghost use Rattle.table9.specs.Agreement.{InReach, distance, agreesWith};
+use numeric::magnitude;
 use stoichiometry::ENTRIES;
 use stoichiometry::PROCESSES;
 use stoichiometry::SUBSTANCES;
@@ -65,17 +66,6 @@ fn entry(rows: &[i64; ENTRIES], process: usize, substance: usize) -> i64 {
     0
 }
 
-fn size(entry: i64) -> u64
-    requires { ⌜ natAbs entry ≤ 30000000000 ⌝ }
-    ensures { λ r. ⌜ r ≡ natAbs entry ⌝ }
-{
-    if entry < 0 {
-        (-entry) as u64
-    } else {
-        entry as u64
-    }
-}
-
 // An entry without its sign, in the unit of `weight`; out of reach where it is larger than any of the published set.
 fn amount(entry: i64, substance: usize) -> u64 {
     if entry < -30000000000 {
@@ -84,7 +74,7 @@ fn amount(entry: i64, substance: usize) -> u64 {
     if 30000000000 < entry {
         return u64::MAX;
     }
-    size(entry) * weight(substance)
+    magnitude(entry) * weight(substance)
 }
 
 fn difference(a: u64, b: u64) -> u64

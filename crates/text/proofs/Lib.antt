@@ -1,9 +1,7 @@
--- Laws by subject: writes; decimals in columns and their writer's loops; the size of a signed number; blocks; the
--- reader, its loops; worked cases.
+-- Laws by subject: writes; decimals in columns and their writer's loops; blocks; the reader, its loops; worked cases.
 pub mod WriteLaws
 pub mod DecimalLaws
 pub mod DigitLaws
-pub mod Magnitudes
 pub mod BlockLaws
 pub mod ReadingLaws
 pub mod ReadingLoop

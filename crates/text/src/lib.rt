@@ -7,9 +7,9 @@ ghost use Rattle.text.specs.Reading.{parse};
 use crate::reading::blanks;
 use crate::reading::number_after;
 use crate::writing::glyph;
-use crate::writing::magnitude;
 use crate::writing::mark_of;
 use crate::writing::write_plain;
+use numeric::magnitude;
 
 mod digits;
 mod reading;

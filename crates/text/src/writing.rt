@@ -3,7 +3,6 @@
 ghost use mathlib.Core.Path.{_≡_};
 ghost use Prim.Native.Nat.{_+_, _<_, _≤_};
 ghost use lib.ListN.{length};
-ghost use lib.IntN.{natAbs};
 ghost use Rattle.text.specs.Writes.{put};
 ghost use Rattle.text.specs.Decimals.{glyph, nextMark, columns, plain, markOf};
 ghost use Rattle.text.specs.Stages.{Blank};
@@ -27,17 +26,6 @@ fn next_mark(rest: u64, mark: u8) -> u8
     ensures { λ r. ⌜ r ≡ nextMark rest mark ⌝ }
 {
     if rest == 0 { b' ' } else { mark }
-}
-
-// The number without its sign. One is added before it is negated, since the least number has no negative in 64 bits.
-pub(crate) fn magnitude(value: i64) -> u64
-    ensures { λ r. ⌜ r ≡ natAbs value ⌝ }
-{
-    if value < 0 {
-        (-(value + 1)) as u64 + 1
-    } else {
-        value as u64
-    }
 }
 
 // A minus below zero, otherwise a blank.

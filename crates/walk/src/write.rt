@@ -1,24 +1,11 @@
 // What is written of an answer, and of six totals.
 use libc::STDOUT_FILENO;
+use numeric::magnitude;
 use river::Totals;
-
-// No number that is written is further from 0 than this.
-const MOST: i64 = 9000000000000000000;
 
 pub(crate) fn write_number(number: u32) {
     io::print_decimal(STDOUT_FILENO, number as u64);
     io::write_all(STDOUT_FILENO, b"\n");
-}
-
-// A number without its sign.
-fn size(x: i64) -> u64 {
-    if x < -MOST {
-        return u64::MAX;
-    }
-    if MOST < x {
-        return u64::MAX;
-    }
-    if x < 0 { (-x) as u64 } else { x as u64 }
 }
 
 fn write_signed(x: i64) {
@@ -26,7 +13,7 @@ fn write_signed(x: i64) {
     if x < 0 {
         io::write_all(STDOUT_FILENO, b"-");
     }
-    io::print_decimal(STDOUT_FILENO, size(x));
+    io::print_decimal(STDOUT_FILENO, magnitude(x));
 }
 
 // A cell with its C, H, O, N, P and charge.

@@ -25,8 +25,8 @@ returns c = search needs
 returns-2 : tie.Need-returns-2
 returns-2 c = search needs
 
-size-requires : tie.Need-size-requires
-size-requires c κs = entry-most c
+magnitude-requires : tie.Need-magnitude-requires
+magnitude-requires c κs = search needs
 
 weight-requires : tie.Need-weight-requires
 weight-requires c κs = search needs
@@ -34,11 +34,11 @@ weight-requires c κs = search needs
 mul-result : tie.Need-mul-result
 mul-result c =
     let s = c .before in
-    let h : s .size .result ≤ 30000000000 = omega (arith, entry-most (s .before), s .size .ensures) in
+    let h : s .magnitude .result ≤ 30000000000 = omega (arith, entry-most (s .before), s .magnitude .ensures) in
     fits-below tt (mul-le-mul h (c .weight .ensures))
 
 returns-3 : tie.Need-returns-3
 returns-3 c = search needs
 
 pub amount-spec : {M : Type 1} → statement M
-amount-spec = tie.close (tie.spec returns returns-2 size-requires weight-requires mul-result returns-3)
+amount-spec = tie.close (tie.spec returns returns-2 magnitude-requires weight-requires mul-result returns-3)

@@ -1,7 +1,7 @@
 -- `writing::mark_of` meets its contract: a minus below zero, otherwise a blank. No assumptions.
 use mathlib.Core.Path.{sym, ap}
 use Rattle.text.specs.Decimals.{markOf}
-use Rattle.text.proofs.Magnitudes.{below-zero, not-below}
+use Rattle.numeric.proofs.Magnitudes.{below-zero, not-below}
 use Rattle.text.proofs.writing.mark_of.Statement.{statement}
 use Rattle.text.proofs.writing.mark_of.Tie as tie
 

@@ -1,4 +1,4 @@
--- `writing::magnitude` meets its contract, for every number. No assumptions.
+-- `magnitude` meets its contract, for every number. No assumptions.
 use Prim.Native.Nat.{ℕ, suc, _<_, _^_}
 use mathlib.Core.Path.{_≡_, sym, _∙_, subst}
 use native.Mathlib.Numerals.{add-one}
@@ -10,9 +10,9 @@ use lib.Signed.{nonNeg}
 use mir.Syntax.{w64}
 use mir.Val.{SFits, Fits, toZ, ofZ}
 use mir.Facts.{toZ-ofZ}
-use Rattle.text.proofs.Magnitudes.{less, less-add, less-is, not-below}
-use Rattle.text.proofs.writing.magnitude.Statement.{statement}
-use Rattle.text.proofs.writing.magnitude.Tie as tie
+use Rattle.numeric.proofs.Magnitudes.{less, less-add, less-is, not-below}
+use Rattle.numeric.proofs.magnitude.Statement.{statement}
+use Rattle.numeric.proofs.magnitude.Tie as tie
 
 fits : (z : ℤ) (k : ℕ) → z ≡ pos k → k < 2 ^ 63 → SFits w64 z
 fits z k e h = subst (λ (t : ℤ). SFits w64 t) (sym e) (record { sfits = h })
