@@ -9,7 +9,7 @@ use lib.Signed.{nonNeg}
 use mir.Syntax.{w64}
 use mir.Val.{SFits, Fits, toZ, ofZ}
 use mir.Facts.{toZ-ofZ}
-use Rattle.text.proofs.Magnitudes.{less, less-add, less-is, not-below}
+use Rattle.numeric.proofs.Magnitudes.{less, less-add, less-is, not-below}
 use Rattle.compare.proofs.digest.residue.Statement.{statement}
 use Rattle.compare.proofs.digest.residue.Tie as tie
 
