@@ -184,7 +184,7 @@ pub fn letter_of(river: River, cell: u32) -> Letter
 pub fn load_river(river: River, cell: u32, substance: u32, number: i64) -> Changed
     ensures answer { λ r. ⌜ r ≡ loadAnswer river cell substance number ⌝ }
 {
-    // The answer's river is tested and changed in place, so that it is copied once.
+    // The answer's river is tested and changed in place: no other copy of it is made.
     let mut answer = Changed { number: 0, river };
     let cells = answer.river.cells;
     let amounts = amounts_right(cells, &answer.river.amounts);
@@ -213,7 +213,7 @@ pub fn load_river(river: River, cell: u32, substance: u32, number: i64) -> Chang
 pub fn flow_river(river: River, part: u32) -> Flowed
     ensures answer { λ r. ⌜ r ≡ flowAnswer river part ⌝ }
 {
-    // The answer's river is tested and changed in place, so that it is copied once.
+    // The answer's river is tested and changed in place: no other copy of it is made.
     let mut answer = Flowed {
         number: 0,
         river,
@@ -242,7 +242,7 @@ pub fn flow_river(river: River, part: u32) -> Flowed
 pub fn air_river(river: River, cell: u32, constant: u32, seconds: u32, saturation: u32) -> Aired
     ensures answer { λ r. ⌜ r ≡ airAnswer river cell constant seconds saturation ⌝ }
 {
-    // The answer's river is tested and changed in place, so that it is copied once.
+    // The answer's river is tested and changed in place: no other copy of it is made.
     let mut answer = Aired {
         number: 0,
         river,
