@@ -9,7 +9,7 @@ use lib.Seq.{length-take-le, getD-take}
 use Rattle.text.specs.Writes.{put}
 use Rattle.text.specs.Decimals.{columns}
 use Rattle.text.specs.Stages.{Blank, pair, four}
-use Rattle.text.proofs.WriteLaws.{put-before, set-put, grow, store}
+use Rattle.text.proofs.WriteLaws.{put-before, set-put, store}
 use Rattle.text.proofs.DecimalLaws.{glyph-zero, glyph-digit, next-mark-zero, next-mark-digit, columns-length, columns-turn, blank-set, blank-end}
 
 -- The mark alone, in columns that are blank.
@@ -48,13 +48,6 @@ four-last n h e =
     let c : 48 + r / 10 % 10 ≡ 48 + n / 10 % 10 = omega arith in
     let d : 48 + r % 10 ≡ 48 + n % 10 = omega arith in
     rw (a, b, c, d) refl
-
--- Two pairs are four digits.
-pub four-written : (l : List ℕ) (at n h : ℕ) → at + 4 ≤ length l → h ≡ n / 100
-    → put (put l at (pair h)) (at + 2) (pair (n - h * 100)) ≡ put l at (four n)
-four-written l at n h room e =
-    grow l (put l at (pair h)) at 2 (at + 2) (pair h) (pair (n - h * 100)) refl refl (omega arith) refl
-    ∙ ap₂ (λ (x : ℕ) (y : List ℕ). put l at (pair x ++ y)) e (pair-last n h e)
 
 -- A write behind them leaves columns blank.
 pub blank-put : (l : List ℕ) (at i j k : ℕ) (xs : List ℕ) → Blank l at i → j ≤ i → at + j ≤ k → k ≤ length l

@@ -1,7 +1,9 @@
--- Laws by subject: writes; decimals in columns and their writer's loops; blocks; the reader, its loops; worked cases.
+-- Laws by subject: writes; decimals in columns; digits by ones, twos and fours; blocks; the reader, its loops; the
+-- writer's loop; worked cases.
 pub mod WriteLaws
 pub mod DecimalLaws
 pub mod DigitLaws
+pub mod FourLaws
 pub mod BlockLaws
 pub mod ReadingLaws
 pub mod ReadingLoop

@@ -1,6 +1,7 @@
 -- What the inner functions of the reader and of the writer hand to each other: how far a text is read, that columns are
--- still blank, and digits by twos and fours. Laws: proofs/ReadingLoop.antt, proofs/DecimalLaws.antt. No assumptions.
-use Prim.Native.Nat.{ℕ, _+_, _/_, _%_, _≤_, _<_}
+-- still blank, digits by twos and fours, and bytes as one number. Laws: proofs/ReadingLoop.antt,
+-- proofs/DecimalLaws.antt, proofs/FourLaws.antt. No assumptions.
+use Prim.Native.Nat.{ℕ, _+_, _*_, _/_, _%_, _≤_, _<_}
 use mathlib.Core.List.{List, [], _∷_, _++_}
 use mathlib.Core.Path.{_≡_}
 use lib.ListN.{length, take, getD}
@@ -28,3 +29,8 @@ pair n = (48 + n / 10 % 10) ∷ (48 + n % 10) ∷ []
 
 abbrev pub four : ℕ → List ℕ
 four n = pair (n / 100) ++ pair n
+
+-- Bytes as one number, the first lowest.
+abbrev pub packed : List ℕ → ℕ
+packed [] = 0
+packed (b ∷ l) = b + packed l * 256

@@ -1,51 +1,71 @@
--- `digits::write_four` meets its contract: two pairs. No assumptions.
-use Prim.Native.Nat.{ℕ, _+_, _-_, _*_, _/_}
-use mathlib.Core.List.{List}
-use mathlib.Core.Path.{refl, ap, _∙_}
-use Rattle.text.specs.Writes.{put}
-use Rattle.text.specs.Stages.{pair}
-use Rattle.text.proofs.DigitLaws.{four-written}
+-- `digits::write_four` meets its contract: the four bytes stored. No assumptions.
+use native.Mathlib.Omega.{arith}
+use lib.ListN.{length-set}
+use Rattle.text.proofs.FourLaws.{four-stored}
 use borrow.Author.Needs.{needs}
 use Rattle.text.proofs.digits.write_four.Statement.{statement}
 use Rattle.text.proofs.digits.write_four.Tie as tie
 
-write-pair-requires : tie.Need-write-pair-requires
-write-pair-requires c κs = search needs
+four-bytes-requires : tie.Need-four-bytes-requires
+four-bytes-requires c κs = search needs
 
-add-write-pair : tie.Need-add-write-pair
-add-write-pair c = search needs
+add-second : tie.Need-add-second
+add-second c = search needs
 
-mul-write-pair : tie.Need-mul-write-pair
-mul-write-pair c = search needs
+add-third : tie.Need-add-third
+add-third c = search needs
 
-sub-write-pair : tie.Need-sub-write-pair
-sub-write-pair c = search needs
+add-last : tie.Need-add-last
+add-last c = search needs
 
-write-pair-requires-2 : tie.Need-write-pair-requires-2
-write-pair-requires-2 c κs = search needs
+cast-out : tie.Need-cast-out
+cast-out c = search needs
+
+slice-write-out : tie.Need-slice-write-out
+slice-write-out c = search needs
+
+cast-out-2 : tie.Need-cast-out-2
+cast-out-2 c = search needs
+
+slice-write-out-2 : tie.Need-slice-write-out-2
+slice-write-out-2 c = simp length-set (omega arith)
+
+cast-out-3 : tie.Need-cast-out-3
+cast-out-3 c = search needs
+
+slice-write-out-3 : tie.Need-slice-write-out-3
+slice-write-out-3 c = simp length-set (omega arith)
+
+cast-out-4 : tie.Need-cast-out-4
+cast-out-4 c = search needs
+
+slice-write-out-4 : tie.Need-slice-write-out-4
+slice-write-out-4 c = simp length-set (omega arith)
 
 same-length : tie.Need-same-length
 same-length c = search needs
 
 returns : tie.Need-returns
 returns c =
-    let second = c .before .before in
-    let first = second .before .before .before .before in
-    let start = first .before .before .before in
-    let args = start .args in
-    let n = args .n in
-    second .write-pair2 .ensures
-    ∙ ap (λ (l : List ℕ). put l (args .at + 2) (pair (n - n / 100 * 100))) (first .write-pair .ensures)
-    ∙ four-written (args .out .now) (args .at) n (n / 100) (start .pre .1) refl
+    let start = c .before .before in
+    four-stored _ _ _ _ _ (omega arith) (omega arith) (omega arith) (omega arith)
+    (c .four-bytes .ensures) (start .args .out .now) (start .args .at) (start .pre .1)
 
 pub write-four-spec : {M : Type 1} → statement M
 write-four-spec =
     tie.close
     (tie.spec
-    write-pair-requires
-    add-write-pair
-    mul-write-pair
-    sub-write-pair
-    write-pair-requires-2
+    four-bytes-requires
+    add-second
+    add-third
+    add-last
+    cast-out
+    slice-write-out
+    cast-out-2
+    slice-write-out-2
+    cast-out-3
+    slice-write-out-3
+    cast-out-4
+    slice-write-out-4
     same-length
     returns)
