@@ -1,5 +1,5 @@
 -- Laws by subject: differences and expressions of integers, the ring normaliser, bounds, quotients, comparisons, what
--- fits 64 bits, machine expressions, sizes, tables, filling loops, sums, checks.
+-- fits 64 bits, machine expressions, joined bits, sizes, tables, filling loops, sums, checks.
 pub mod Difference
 pub mod Expression
 pub mod RingLaws
@@ -9,6 +9,7 @@ pub mod Quotient
 pub mod Comparison
 pub mod Fitting
 pub mod Machine
+pub mod JoinedBits
 pub mod Magnitudes
 pub mod TableLaws
 pub mod Filling

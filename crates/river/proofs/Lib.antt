@@ -1,6 +1,7 @@
--- Laws by subject: bounds of amounts by the substance's place; amounts and carries within bounds, and check 4; load;
--- air; flow.
+-- Laws by subject: bounds of amounts by the substance's place; runs of substances; amounts and carries within bounds,
+-- and check 4; load; air; flow.
 pub mod Bounds
+pub mod Runs
 pub mod Rivers
 pub mod LoadLaws
 pub mod AirLaws

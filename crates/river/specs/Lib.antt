@@ -1,4 +1,5 @@
 pub mod Rivers
+pub mod Runs
 pub mod Load
 pub mod Flow
 pub mod Stages

@@ -20,6 +20,8 @@ pub(crate) const XH: usize = 9;
 
 pub(crate) const XI: usize = 14;
 
+pub(crate) const XP: usize = 15;
+
 pub(crate) const H2O: usize = 16;
 
 // Letters, ASCII: low oxygen, high ammonium, neither.

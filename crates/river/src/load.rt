@@ -10,7 +10,7 @@ ghost use Rattle.stoichiometry.specs.Substances.{substances};
 ghost use Rattle.river.specs.Rivers.{mostCells, amountFits, amountAt};
 ghost use Rattle.river.specs.Load.{substanceExists};
 use crate::AMOUNTS;
-use crate::check::amount_fits;
+use crate::amounts::amount_fits;
 use numeric::both;
 use stoichiometry::SUBSTANCES;
 

@@ -1,28 +1,27 @@
--- `check::cell_fits` meets its contract. The loop's invariant: the amounts passed fit. No assumptions.
-use Prim.Native.Nat.{ℕ, _≤_, _+_, _-_}
-use mathlib.Core.Bool.{true}
+-- `amounts::each_fits` meets its contract. The loop's invariant: the amounts passed fit. No assumptions.
+use Prim.Native.Nat.{_≤_, _+_, _-_}
+use mathlib.Core.Bool.{true≢false}
 use mathlib.Core.Path.{_≡_, sym, _∙_}
 use native.Mathlib.Omega.{arith}
 use borrow.Author.Needs.{sfits-of}
 use lib.IntN.{pos}
 use lib.ListN.{getD}
 use mir.Facts.{toZ-ofZ}
-use Rattle.numeric.specs.Check.{every}
-use Rattle.numeric.proofs.CheckLaws.{every-none, every-more, every-fails}
 use Rattle.numeric.proofs.Machine.{kept}
-use Rattle.river.specs.Rivers.{amountFits}
-use Rattle.river.proofs.check.cell_fits.Statement.{statement}
-use Rattle.river.proofs.check.cell_fits.Tie as tie
+use Rattle.river.specs.Runs.{RunFits}
+use Rattle.river.proofs.Runs.{run-none, run-more, run-stops}
+use Rattle.river.proofs.amounts.each_fits.Statement.{statement}
+use Rattle.river.proofs.amounts.each_fits.Tie as tie
 
 abbrev Inv-loop : tie.InvT-loop
-Inv-loop amounts start s₀ s =
-    (s ≤ 18) × (every s (λ (j : ℕ). amountFits j (getD amounts (start + j) (pos 0))) ≡ true)
+Inv-loop amounts start first end s₀ s = (first ≤ s) × (s ≤ end) × RunFits amounts start first s
 
 abbrev μ-loop : tie.MeasureT-loop
-μ-loop amounts start s₀ s = 18 - s
+μ-loop amounts start first end s₀ s = end - s
 
 loop-holds : tie.Need-loop-holds Inv-loop μ-loop
-loop-holds c = (omega arith, every-none _)
+loop-holds c =
+    (omega arith, omega arith, run-none (c .args .amounts .now) (c .args .start) (c .args .first))
 
 add-amount-fits : tie.Need-add-amount-fits Inv-loop μ-loop
 add-amount-fits c = omega arith
@@ -55,7 +54,12 @@ loop-again c =
     let at-read = at-call .before in
     let at-loop = at-read .before .before in
     let fits = sym (at-call .amount-fits .ensures) ∙ c .if1 .taken in
-    (omega arith, every-more _ _ (at-loop .loop .inv .1) (rw (kept-is at-read) at fits))
+    let args = at-loop .before .args in (
+      omega arith,
+      omega arith,
+      run-more (args .amounts .now) (args .start) (args .first) (at-loop .loop .s) (at-loop .loop .inv .2)
+          (rw (kept-is at-read) at fits),
+    )
 
 -- An amount that does not fit.
 returns : tie.Need-returns Inv-loop μ-loop
@@ -64,14 +68,21 @@ returns c =
     let at-read = at-call .before in
     let at-loop = at-read .before .before in
     let fails = sym (at-call .amount-fits .ensures) ∙ c .if1 .left in
-    sym (every-fails _ (at-loop .loop .s) _ (omega arith) (rw (kept-is at-read) at fails))
+    let args = at-loop .before .args in (
+      λ e. absurd (true≢false (sym e)),
+      λ e. run-stops (args .amounts .now) (args .start) (args .first) (at-loop .loop .s) (args .end) (omega arith)
+          (omega arith) (rw (kept-is at-read) at fails),
+    )
 
 -- All fit.
 returns-2 : tie.Need-returns-2 Inv-loop μ-loop
-returns-2 c = let all : c .before .loop .s ≡ 18 = omega arith in sym (rw all at (c .before .loop .inv .1))
+returns-2 c =
+    let at-loop = c .before in
+    let all : at-loop .loop .s ≡ at-loop .before .args .end = omega arith in
+    (λ e. rw all at (at-loop .loop .inv .2), λ e. absurd (true≢false e))
 
-pub cell-fits-spec : {M : Type 1} → statement M
-cell-fits-spec =
+pub each-fits-spec : {M : Type 1} → statement M
+each-fits-spec =
     tie.close
     (tie.spec
     Inv-loop

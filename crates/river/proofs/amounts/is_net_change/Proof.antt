@@ -1,7 +1,7 @@
--- `check::is_net_change` meets its contract: each test that decides has the definition's value. No assumptions.
+-- `amounts::is_net_change` meets its contract: each test that decides has the definition's value. No assumptions.
 use borrow.Author.Tests.{eq-eqb, ne-eqb}
-use Rattle.river.proofs.check.is_net_change.Statement.{statement}
-use Rattle.river.proofs.check.is_net_change.Tie as tie
+use Rattle.river.proofs.amounts.is_net_change.Statement.{statement}
+use Rattle.river.proofs.amounts.is_net_change.Tie as tie
 
 returns : tie.Need-returns
 returns c = rw (eq-eqb _ _ (c .if1 .taken))

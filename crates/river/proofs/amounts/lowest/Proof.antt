@@ -1,9 +1,9 @@
--- `check::lowest` meets its contract: the least of a substance by its kind. No assumptions.
+-- `amounts::lowest` meets its contract: the least of a substance by its kind. No assumptions.
 use mathlib.Core.Path.{sym, _∙_}
 use borrow.Author.Needs.{needs}
 use Rattle.river.proofs.Bounds.{lowest-kind}
-use Rattle.river.proofs.check.lowest.Statement.{statement}
-use Rattle.river.proofs.check.lowest.Tie as tie
+use Rattle.river.proofs.amounts.lowest.Statement.{statement}
+use Rattle.river.proofs.amounts.lowest.Tie as tie
 
 is-net-change-requires : tie.Need-is-net-change-requires
 is-net-change-requires c κs = search needs

@@ -1,4 +1,4 @@
--- `check::no_amount_from` meets its contract. The loop's invariant: the amounts passed are zeros. No assumptions.
+-- `amounts::no_amount_from` meets its contract. The loop's invariant: the amounts passed are zeros. No assumptions.
 use Prim.Native.Nat.{ℕ, _≤_, _+_, _-_}
 use mathlib.Core.Bool.{true}
 use mathlib.Core.Path.{_≡_, sym}
@@ -10,8 +10,8 @@ use lib.ListN.{getD}
 use Rattle.numeric.specs.Check.{every}
 use Rattle.numeric.proofs.CheckLaws.{every-none, every-more, every-fails}
 use Rattle.river.proofs.Bounds.{zero-bits, nonzero-bits}
-use Rattle.river.proofs.check.no_amount_from.Statement.{statement}
-use Rattle.river.proofs.check.no_amount_from.Tie as tie
+use Rattle.river.proofs.amounts.no_amount_from.Statement.{statement}
+use Rattle.river.proofs.amounts.no_amount_from.Tie as tie
 
 abbrev Inv-loop : tie.InvT-loop
 Inv-loop start amounts count i₀ i =

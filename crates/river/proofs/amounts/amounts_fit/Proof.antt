@@ -1,9 +1,9 @@
--- `check::amounts_fit` meets its contract: the definition by parts, what the two calls ensure. No assumptions.
+-- `amounts::amounts_fit` meets its contract: the definition by parts, what the two calls ensure. No assumptions.
 use mathlib.Core.Path.{sym, _∙_}
 use borrow.Author.Needs.{needs}
 use Rattle.river.proofs.Rivers.{amounts-parts}
-use Rattle.river.proofs.check.amounts_fit.Statement.{statement}
-use Rattle.river.proofs.check.amounts_fit.Tie as tie
+use Rattle.river.proofs.amounts.amounts_fit.Statement.{statement}
+use Rattle.river.proofs.amounts.amounts_fit.Tie as tie
 
 first-cells-fit-requires : tie.Need-first-cells-fit-requires
 first-cells-fit-requires c κs = search needs

@@ -1,4 +1,4 @@
--- `check::first_cells_fit` meets its contract. The loop's invariant: the cells passed fit. No assumptions.
+-- `amounts::first_cells_fit` meets its contract. The loop's invariant: the cells passed fit. No assumptions.
 use Prim.Native.Nat.{ℕ, _≤_, _-_}
 use mathlib.Core.Bool.{true}
 use mathlib.Core.Path.{_≡_, sym, _∙_}
@@ -6,8 +6,8 @@ use native.Mathlib.Omega.{arith}
 use Rattle.numeric.specs.Check.{every}
 use Rattle.numeric.proofs.CheckLaws.{every-none, every-more, every-fails}
 use Rattle.river.specs.Rivers.{amountFits, amountAt}
-use Rattle.river.proofs.check.first_cells_fit.Statement.{statement}
-use Rattle.river.proofs.check.first_cells_fit.Tie as tie
+use Rattle.river.proofs.amounts.first_cells_fit.Statement.{statement}
+use Rattle.river.proofs.amounts.first_cells_fit.Tie as tie
 
 abbrev Inv-loop : tie.InvT-loop
 Inv-loop n amounts c₀ c =

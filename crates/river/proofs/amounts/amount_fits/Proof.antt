@@ -1,10 +1,10 @@
--- `check::amount_fits` meets its contract: the tests on what the machine keeps are those of the definition.
+-- `amounts::amount_fits` meets its contract: the tests on what the machine keeps are those of the definition.
 -- No assumptions.
 use borrow.Author.Needs.{needs, sfits-of}
 use mir.Facts.{toZ-ofZ}
 use Rattle.river.specs.Rivers.{amountFits}
-use Rattle.river.proofs.check.amount_fits.Statement.{statement}
-use Rattle.river.proofs.check.amount_fits.Tie as tie
+use Rattle.river.proofs.amounts.amount_fits.Statement.{statement}
+use Rattle.river.proofs.amounts.amount_fits.Tie as tie
 
 lowest-requires : tie.Need-lowest-requires
 lowest-requires c κs = search needs

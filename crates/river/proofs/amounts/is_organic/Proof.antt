@@ -1,7 +1,7 @@
--- `check::is_organic` meets its contract: each test that decides has the definition's value. No assumptions.
+-- `amounts::is_organic` meets its contract: each test that decides has the definition's value. No assumptions.
 use borrow.Author.Tests.{lt-ltb, le-ltb, le-leb, lt-leb}
-use Rattle.river.proofs.check.is_organic.Statement.{statement}
-use Rattle.river.proofs.check.is_organic.Tie as tie
+use Rattle.river.proofs.amounts.is_organic.Statement.{statement}
+use Rattle.river.proofs.amounts.is_organic.Tie as tie
 
 returns : tie.Need-returns
 returns c = rw (lt-ltb _ _ (c .if1 .taken))

@@ -1,9 +1,9 @@
--- `check::highest` meets its contract: the most of a substance by its kind. No assumptions.
+-- `amounts::highest` meets its contract: the most of a substance by its kind. No assumptions.
 use mathlib.Core.Path.{sym, _∙_}
 use borrow.Author.Needs.{needs}
 use Rattle.river.proofs.Bounds.{highest-kind}
-use Rattle.river.proofs.check.highest.Statement.{statement}
-use Rattle.river.proofs.check.highest.Tie as tie
+use Rattle.river.proofs.amounts.highest.Statement.{statement}
+use Rattle.river.proofs.amounts.highest.Tie as tie
 
 is-organic-requires : tie.Need-is-organic-requires
 is-organic-requires c κs = search needs

@@ -1,0 +1,75 @@
+-- `amounts::runs_fit` meets its contract: each way out but the last is a test that fails; at the last all runs, side by
+-- side, are the cell. No assumptions.
+use mathlib.Core.Bool.{true≢false}
+use mathlib.Core.Path.{refl, sym}
+use native.Mathlib.Omega.{arith}
+use borrow.Author.Needs.{needs}
+use borrow.Author.Tests.{not-false}
+use Rattle.numeric.specs.Check.{every}
+use Rattle.river.proofs.Runs.{same-bounds, run-append}
+use Rattle.river.proofs.amounts.runs_fit.Statement.{statement}
+use Rattle.river.proofs.amounts.runs_fit.Tie as tie
+
+run-fits-requires : tie.Need-run-fits-requires
+unfolding every
+run-fits-requires c κs = ((omega arith, omega arith, omega arith), same-bounds 0 2 (omega arith) (omega arith) refl)
+
+returns : tie.Need-returns
+returns c e = absurd (true≢false (sym e))
+
+run-fits-requires-2 : tie.Need-run-fits-requires-2
+unfolding every
+run-fits-requires-2 c κs = ((omega arith, omega arith, omega arith), same-bounds 2 8 (omega arith) (omega arith) refl)
+
+returns-2 : tie.Need-returns-2
+returns-2 c e = absurd (true≢false (sym e))
+
+each-fits-requires : tie.Need-each-fits-requires
+each-fits-requires c κs = search needs
+
+returns-3 : tie.Need-returns-3
+returns-3 c e = absurd (true≢false (sym e))
+
+run-fits-requires-3 : tie.Need-run-fits-requires-3
+unfolding every
+run-fits-requires-3 c κs = ((omega arith, omega arith, omega arith), same-bounds 9 15 (omega arith) (omega arith) refl)
+
+returns-4 : tie.Need-returns-4
+returns-4 c e = absurd (true≢false (sym e))
+
+each-fits-requires-2 : tie.Need-each-fits-requires-2
+each-fits-requires-2 c κs = search needs
+
+returns-5 : tie.Need-returns-5
+returns-5 c e =
+    let after-organics = c .before in
+    let after-net = after-organics .before .before in
+    let after-grains = after-net .before .before in
+    let after-first = after-grains .before .before in
+    let args = after-first .before .before .args in
+    let amounts = args .amounts .now in
+    let start = args .start in
+    let first = after-first .before .run-fits .ensures (not-false _ (after-first .if1 .left)) in
+    let grains = after-grains .before .run-fits2 .ensures (not-false _ (after-grains .if2 .left)) in
+    let net = after-net .before .each-fits .ensures .0 (not-false _ (after-net .if3 .left)) in
+    let organics = after-organics .before .run-fits3 .ensures (not-false _ (after-organics .if4 .left)) in
+    let last = c .each-fits2 .ensures .0 e in
+    let to-net = run-append amounts start 0 2 8 first grains in
+    let to-organics = run-append amounts start 0 8 9 to-net net in
+    let to-last = run-append amounts start 0 9 15 to-organics organics in
+    run-append amounts start 0 15 18 to-last last
+
+pub runs-fit-spec : {M : Type 1} → statement M
+runs-fit-spec =
+    tie.close
+    (tie.spec
+    run-fits-requires
+    returns
+    run-fits-requires-2
+    returns-2
+    each-fits-requires
+    returns-3
+    run-fits-requires-3
+    returns-4
+    each-fits-requires-2
+    returns-5)

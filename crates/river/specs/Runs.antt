@@ -1,0 +1,25 @@
+-- What the inner functions of check 4 say of a run of neighbouring substances of a cell (scope, "Units and substances":
+-- the bounds). Laws: proofs/Runs.antt. No assumptions.
+use Prim.Native.Nat.{ℕ, _+_, _≤_, _<_}
+use mathlib.Core.Bool.{true}
+use mathlib.Core.List.{List}
+use mathlib.Core.Path.{_≡_}
+use lib.ListN.{getD}
+use lib.IntN.{ℤ, pos}
+use lib.Signed.{_≤ℤ_}
+use Rattle.river.specs.Rivers.{lowestAt, highestAt, amountFits}
+
+-- The amounts of the substances at places first to end - 1, of the cell that begins at `start`, are in their bounds.
+abbrev pub RunFits : List ℤ → ℕ → ℕ → ℕ → Type 0
+RunFits amounts start first end =
+    (s : ℕ) → first ≤ s → s < end → amountFits s (getD amounts (start + s) (pos 0)) ≡ true
+
+-- The substances at these places have the bounds of the first of them, from 0 on.
+abbrev pub SameBounds : ℕ → ℕ → Type 0
+SameBounds first end = (s : ℕ) → first ≤ s → s < end → (lowestAt s ≡ pos 0) × (highestAt s ≡ highestAt first)
+
+-- Where z is not below zero, each of `count` amounts from `start` on is from 0 to z.
+abbrev pub Covers : List ℤ → ℕ → ℕ → ℤ → Type 0
+Covers amounts start count z =
+    pos 0 ≤ℤ z → (i : ℕ) → i < count
+    → (pos 0 ≤ℤ getD amounts (start + i) (pos 0)) × (getD amounts (start + i) (pos 0) ≤ℤ z)

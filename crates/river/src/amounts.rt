@@ -1,0 +1,187 @@
+// The amounts' part of check 4: those of the river's cells are in their bounds, all others are 0.
+ghost use mathlib.Core.Path.{_≡_};
+ghost use mathlib.Core.Bool.{true, false, _&&_, _||_};
+ghost use Prim.Native.Nat.{_+_, _*_, _-_, _<_, _≤_};
+ghost use lib.Dec.{leb, ltb, eqb};
+ghost use lib.ListN.{getD};
+ghost use lib.IntN.{pos, natAbs};
+ghost use Rattle.numeric.specs.Check.{every};
+ghost use Rattle.stoichiometry.specs.Substances.{substances};
+ghost use Rattle.river.specs.Rivers.{mostCells, lowestAt, highestAt, amountFits, amountAt, amountsFit};
+ghost use Rattle.river.specs.Runs.{RunFits, SameBounds, Covers};
+use crate::AMOUNTS;
+use crate::River;
+use crate::cells::H_PLUS;
+use crate::cells::H2O;
+use crate::cells::NH4;
+use crate::cells::XH;
+use crate::cells::XI;
+use crate::cells::XP;
+use numeric::both;
+use stoichiometry::SUBSTANCES;
+
+// The substance at place s is an organic; it is H+ or H2O.
+fn is_organic(s: usize) -> bool
+    ensures { λ r. ⌜ r ≡ (ltb s 2 || (leb 9 s && leb s 14)) ⌝ }
+{
+    s < NH4 || (XH <= s && s <= XI)
+}
+
+fn is_net_change(s: usize) -> bool
+    ensures { λ r. ⌜ r ≡ (eqb s 8 || eqb s 16) ⌝ }
+{
+    s == H_PLUS || s == H2O
+}
+
+// The least of the substance at place s, and its most.
+fn lowest(s: usize) -> i64
+    requires { ⌜ s < substances ⌝ }
+    ensures { λ r. ⌜ r ≡ lowestAt s ⌝ }
+{
+    if is_net_change(s) {
+        -River::NET_MOST
+    } else {
+        0
+    }
+}
+
+fn highest(s: usize) -> i64
+    requires { ⌜ s < substances ⌝ }
+    ensures { λ r. ⌜ r ≡ highestAt s ⌝ }
+{
+    if is_organic(s) {
+        River::ORGANIC_MOST
+    } else if is_net_change(s) {
+        River::NET_MOST
+    } else {
+        River::GRAINS_MOST
+    }
+}
+
+// An amount x of the substance at place s is in its bounds.
+pub(crate) fn amount_fits(s: usize, x: i64) -> bool
+    requires { ⌜ s < substances ⌝ }
+    ensures { λ r. ⌜ r ≡ amountFits s x ⌝ }
+{
+    both(lowest(s) <= x, x <= highest(s))
+}
+
+// The amounts of the substances at places `first` to `end` - 1, of the cell that begins at `start`, are in their
+// bounds, tested one by one.
+fn each_fits(amounts: &[i64; AMOUNTS], start: usize, first: usize, end: usize) -> bool
+    requires { ⌜ (start + substances ≤ mostCells * substances) × (first ≤ end) × (end ≤ substances) ⌝ }
+    ensures fit { λ r. ⌜ (r ≡ true → RunFits (now (amounts .entry)) start first end) ⌝ }
+    ensures other { λ r. ⌜ (r ≡ false → RunFits (now (amounts .entry)) start first end → ⊥) ⌝ }
+{
+    let mut s = first;
+    while s < end {
+        if amount_fits(s, amounts[start + s]) {
+            s += 1;
+        } else {
+            return false;
+        }
+    }
+    true
+}
+
+// The bits of `count` amounts joined. Where that is not below zero, each amount is from 0 to it.
+fn joined(amounts: &[i64; AMOUNTS], start: usize, count: usize) -> i64
+    requires { ⌜ start + count ≤ mostCells * substances ⌝ }
+    ensures { λ r. ⌜ Covers (now (amounts .entry)) start count r ⌝ }
+{
+    let mut bits = 0;
+    let mut i = 0;
+    while i < count {
+        bits = bits | amounts[start + i];
+        i += 1;
+    }
+    bits
+}
+
+// The same by one test, for substances with the same bounds, from 0 on: true only where each amount fits. Joined bits
+// may be past the most where no amount is, so false tells nothing.
+fn run_fits(amounts: &[i64; AMOUNTS], start: usize, first: usize, end: usize) -> bool
+    requires { ⌜ (start + substances ≤ mostCells * substances) × (first < end) × (end ≤ substances) ⌝ }
+    requires { ⌜ SameBounds first end ⌝ }
+    ensures { λ r. ⌜ (r ≡ true → RunFits (now (amounts .entry)) start first end) ⌝ }
+{
+    amount_fits(first, joined(amounts, start + first, end - first))
+}
+
+// True only where the amounts of the cell that begins at `start` are in their bounds, by few tests: of SS and SI, of
+// NH4 to HCO3, of H+, of XH to XI, and of XP, H2O and N2. False tells nothing.
+fn runs_fit(amounts: &[i64; AMOUNTS], start: usize) -> bool
+    requires { ⌜ start + substances ≤ mostCells * substances ⌝ }
+    ensures { λ r. ⌜ (r ≡ true → RunFits (now (amounts .entry)) start 0 substances) ⌝ }
+{
+    if !run_fits(amounts, start, 0, NH4) {
+        return false;
+    }
+    if !run_fits(amounts, start, NH4, H_PLUS) {
+        return false;
+    }
+    if !each_fits(amounts, start, H_PLUS, XH) {
+        return false;
+    }
+    if !run_fits(amounts, start, XH, XP) {
+        return false;
+    }
+    each_fits(amounts, start, XP, SUBSTANCES)
+}
+
+// The amounts of the cell that begins at `start` are in their bounds. Nearly every cell passes the few tests; where one
+// does not, the amounts are tested one by one.
+fn cell_fits(amounts: &[i64; AMOUNTS], start: usize) -> bool
+    requires { ⌜ start + substances ≤ mostCells * substances ⌝ }
+    ensures { λ r. ⌜ r ≡ every substances (λ s. amountFits s (getD (now (amounts .entry)) (start + s) (pos 0))) ⌝ }
+{
+    if runs_fit(amounts, start) {
+        return true;
+    }
+    each_fits(amounts, start, 0, SUBSTANCES)
+}
+
+// The amounts of the first n cells are in their bounds.
+fn first_cells_fit(n: usize, amounts: &[i64; AMOUNTS]) -> bool
+    requires { ⌜ n ≤ mostCells ⌝ }
+    ensures { λ r. ⌜ r ≡ every n (λ c. every substances (λ s. amountFits s (amountAt (now (amounts .entry)) c s))) ⌝ }
+{
+    let mut c = 0;
+    while c < n {
+        if cell_fits(amounts, c * SUBSTANCES) {
+            c += 1;
+        } else {
+            return false;
+        }
+    }
+    true
+}
+
+// The amounts from `start` on are zeros.
+fn no_amount_from(start: usize, amounts: &[i64; AMOUNTS]) -> bool
+    requires { ⌜ start ≤ mostCells * substances ⌝ }
+    ensures { λ r. ⌜ r ≡ every (mostCells * substances - start) (λ i. eqb (natAbs (getD (now (amounts .entry)) (start + i) (pos 0))) 0) ⌝ }
+{
+    let count = AMOUNTS - start;
+    let mut i = 0;
+    while i < count {
+        if amounts[start + i] == 0 {
+            i += 1;
+        } else {
+            return false;
+        }
+    }
+    true
+}
+
+// The amounts of the first n cells are in their bounds, all others are 0.
+pub(crate) fn amounts_fit(n: usize, amounts: &[i64; AMOUNTS]) -> bool
+    requires { ⌜ n ≤ mostCells ⌝ }
+    ensures { λ r. ⌜ r ≡ amountsFit n (now (amounts .entry)) ⌝ }
+{
+    if first_cells_fit(n, amounts) {
+        no_amount_from(n * SUBSTANCES, amounts)
+    } else {
+        false
+    }
+}
