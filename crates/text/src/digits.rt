@@ -4,7 +4,7 @@ ghost use Prim.Native.Nat.{_+_, _<_, _≤_};
 ghost use lib.ListN.{length};
 ghost use Rattle.text.specs.Writes.{put};
 ghost use Rattle.text.specs.Decimals.{columns};
-ghost use Rattle.text.specs.Stages.{Blank, pair, four, packed};
+ghost use Rattle.text.specs.Stages.{Blank, pair, four};
 use crate::writing::write_singles;
 
 // Two digits.
@@ -19,25 +19,17 @@ fn write_pair(out: &mut [u8], at: usize, n: u32)
     out[second] = b'0' + (n - tens * 10) as u8;
 }
 
-// The bytes of four digits as one number, the first digit's lowest. Both pairs stand side by side in it, so that their
-// tens are taken at once.
-fn four_bytes(n: u32) -> u32
-    requires { ⌜ n < 10000 ⌝ }
-    ensures { λ r. ⌜ r ≡ packed (four n) ⌝ }
-{
-    let hundreds = n / 100;
-    let pairs = hundreds + (n - hundreds * 100) * 65536;
-    // 103 / 1024 is a tenth of a number below 100, rounded down; the mask drops the parts of a whole.
-    let tens = pairs * 103 / 1024 & 0x000f000f;
-    tens + (pairs - tens * 10) * 256 + 0x30303030
-}
-
-// Four digits. Taken from one number, the four bytes are stored at once.
+// Four digits, as the bytes of one number, so that they are stored at once. Both pairs stand side by side in it, and
+// their tens are taken at once: 103 / 1024 is a tenth of a number below 100, rounded down, and the mask drops parts of
+// a whole.
 pub(crate) fn write_four(out: &mut [u8], at: usize, n: u32)
     requires { ⌜ (n < 10000) × (at + 4 ≤ length (now out)) ⌝ }
     ensures { λ _. ⌜ now (out .exit) ≡ put (now (out .entry)) at (four n) ⌝ }
 {
-    let bytes = four_bytes(n);
+    let hundreds = n / 100;
+    let pairs = hundreds + (n - hundreds * 100) * 65536;
+    let tens = pairs * 103 / 1024 & 0x000f000f;
+    let bytes = tens + (pairs - tens * 10) * 256 + 0x30303030;
     let second = at + 1;
     let third = at + 2;
     let last = at + 3;

@@ -1,13 +1,41 @@
--- `digits::write_four` meets its contract: the four bytes stored. No assumptions.
+-- `digits::write_four` meets its contract: the tens of both pairs, the number whose bytes are the digits, and its four
+-- stores. No assumptions.
 use native.Mathlib.Omega.{arith}
 use lib.ListN.{length-set}
-use Rattle.text.proofs.FourLaws.{four-stored}
+use Rattle.text.proofs.FourLaws.{four-tens, four-packed, four-stored}
 use borrow.Author.Needs.{needs}
 use Rattle.text.proofs.digits.write_four.Statement.{statement}
 use Rattle.text.proofs.digits.write_four.Tie as tie
 
-four-bytes-requires : tie.Need-four-bytes-requires
-four-bytes-requires c κs = search needs
+mul-pairs : tie.Need-mul-pairs
+mul-pairs c = search needs
+
+sub-pairs : tie.Need-sub-pairs
+sub-pairs c = search needs
+
+mul-pairs-2 : tie.Need-mul-pairs-2
+mul-pairs-2 c = search needs
+
+add-pairs : tie.Need-add-pairs
+add-pairs c = search needs
+
+mul-tens : tie.Need-mul-tens
+mul-tens c = search needs
+
+mul-bytes : tie.Need-mul-bytes
+mul-bytes c = omega (arith, four-tens (c .args .n) (c .pre .0))
+
+sub-bytes : tie.Need-sub-bytes
+sub-bytes c = omega (arith, four-tens (c .args .n) (c .pre .0))
+
+mul-bytes-2 : tie.Need-mul-bytes-2
+mul-bytes-2 c = search needs
+
+add-bytes : tie.Need-add-bytes
+add-bytes c = omega (arith, four-tens (c .args .n) (c .pre .0))
+
+add-bytes-2 : tie.Need-add-bytes-2
+add-bytes-2 c = omega (arith, four-tens (c .args .n) (c .pre .0))
 
 add-second : tie.Need-add-second
 add-second c = search needs
@@ -37,7 +65,7 @@ slice-write-out-3 : tie.Need-slice-write-out-3
 slice-write-out-3 c = simp length-set (omega arith)
 
 cast-out-4 : tie.Need-cast-out-4
-cast-out-4 c = search needs
+cast-out-4 c = omega (arith, four-tens (c .args .n) (c .pre .0))
 
 slice-write-out-4 : tie.Need-slice-write-out-4
 slice-write-out-4 c = simp length-set (omega arith)
@@ -47,15 +75,25 @@ same-length c = search needs
 
 returns : tie.Need-returns
 returns c =
-    let start = c .before .before in
-    four-stored _ _ _ _ _ (omega arith) (omega arith) (omega arith) (omega arith)
-    (c .four-bytes .ensures) (start .args .out .now) (start .args .at) (start .pre .1)
+    let n = c .args .n in
+    let bytes-are = four-packed n _ (c .pre .0) (four-tens n (c .pre .0)) in
+    four-stored _ _ _ _ _ (omega arith) (omega arith) (omega arith) (omega arith) bytes-are (c .args .out .now) (c .args .at)
+    (c .pre .1)
 
 pub write-four-spec : {M : Type 1} → statement M
 write-four-spec =
     tie.close
     (tie.spec
-    four-bytes-requires
+    mul-pairs
+    sub-pairs
+    mul-pairs-2
+    add-pairs
+    mul-tens
+    mul-bytes
+    sub-bytes
+    mul-bytes-2
+    add-bytes
+    add-bytes-2
     add-second
     add-third
     add-last
