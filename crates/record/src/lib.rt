@@ -46,8 +46,7 @@ pub fn write_record(river: River, output: &mut [u8], work: &mut [u8]) -> u32
     if work.len() < bytes {
         return 10;
     }
-    let carries = river.carries;
-    write_cells(output, n, &river.amounts, &carries);
+    write_cells(output, n, &river.amounts, &river.carries);
     copy_bytes(output, bytes, work);
     0
 }

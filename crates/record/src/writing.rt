@@ -103,11 +103,11 @@ fn write_cell(
 }
 
 // The lines of the first n cells.
-pub(crate) fn write_cells(
+pub(crate) fn write_cells<'a>(
     out: &mut [u8],
     n: usize,
-    amounts: &[i64; AMOUNTS],
-    carries: &[u32; CARRIES],
+    amounts: &'a [i64; AMOUNTS],
+    carries: &'a [u32; CARRIES],
 )
     requires { ⌜ (n ≤ 8) × (n * 945 ≤ length (now out)) ⌝ }
     ensures { λ _. ⌜ now (out .exit) ≡ put (now (out .entry)) 0 (recordText n 35 (valueOf (now (amounts .entry)) (now (carries .entry)))) ⌝ }

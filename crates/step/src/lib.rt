@@ -39,7 +39,6 @@ pub fn step_river(set: Set, river: River, given: Conditions) -> Changed
     if conditions_wrong(given) {
         return answered(6, river);
     }
-    let carries = river.carries;
     let mut amounts = [0; AMOUNTS];
     let mut rest = [0; CARRIES];
     let fit = step_cells(
@@ -48,7 +47,7 @@ pub fn step_river(set: Set, river: River, given: Conditions) -> Changed
         river.cells,
         &rows.entries,
         &river.amounts,
-        &carries,
+        &river.carries,
         &mut amounts,
         &mut rest,
     );

@@ -24,13 +24,13 @@ pub(crate) fn answered(number: u32, river: River) -> Changed
 
 // Writes the amounts and the carries after into lists of zeros; answers whether check 7 is passed, and if it is not,
 // makes no amount: 7 in any cell comes before 8 in any.
-pub(crate) fn step_cells(
+pub(crate) fn step_cells<'a>(
     set: Set,
     given: Conditions,
     cells: u32,
     entries: &[i64; ENTRIES],
-    before: &[i64; AMOUNTS],
-    carries: &[u32; CARRIES],
+    before: &'a [i64; AMOUNTS],
+    carries: &'a [u32; CARRIES],
     amounts: &mut [i64; AMOUNTS],
     rest: &mut [u32; CARRIES],
 ) -> bool

@@ -48,7 +48,7 @@ returns-3 c =
 
 write-cells-requires : tie.Need-write-cells-requires
 write-cells-requires c κs =
-    let room = c .before .before .before .before .before .before in
+    let room = c .before .before .before .before .before in
     (river-cells (room .before .before .before .before .before .args .t1) (right (room .before)) .1, room .if2 .left)
 
 copy-bytes-requires : tie.Need-copy-bytes-requires
@@ -65,7 +65,7 @@ unfolding recordOf
 returns-4 c =
     let copied = c .before .before in
     let written = copied .before .before .before .before .before in
-    let space = written .before .before .before .before .before .before in
+    let space = written .before .before .before .before .before in
     let room = space .before in
     let args = room .before .before .before .before .before .args in
     let r = args .t1 in

@@ -34,7 +34,7 @@ started c = c .before .before .before .before .before .before
 
 -- Where all that was given had passed its checks, from where the lists are lent.
 abbrev checked : tie.After-rest → tie.Else3
-checked c = let lent = c .before .before .before .before in lent .before .before .before .before
+checked c = let lent = c .before .before .before .before in lent .before .before .before
 
 rows-of-requires : tie.Need-rows-of-requires
 rows-of-requires c κs = search needs
