@@ -175,21 +175,12 @@ pub river-right : (r : River) → 1 ≤ r .cells → r .cells ≤ mostCells
 unfolding riverWrong cellsFit
 river-right r l h a c = rw (le-leb 1 (r .cells) l, le-leb (r .cells) mostCells h, a, c)
 
--- Check 4 by the tests of its two arrays.
-pub wrong-tested : (r : River) (amounts carries right : Bool)
-    → amounts ≡ cellsFit (r .cells) && amountsFit (r .cells) (r .amounts)
-    → carries ≡ cellsFit (r .cells) && carriesFit (r .cells) (r .carries)
-    → right ≡ amounts && carries
+-- Check 4 by the tests of its parts.
+pub wrong-tested : (r : River) (right : Bool)
+    → right ≡ cellsFit (r .cells) && amountsFit (r .cells) (r .amounts) && carriesFit (r .cells) (r .carries)
     → riverWrong r ≡ not right
 unfolding riverWrong
-wrong-tested r amounts carries right ea es e =
-    ap not
-    (sym
-    (e ∙ ap₂ _&&_ ea es ∙ once (cellsFit (r .cells)) (amountsFit (r .cells) (r .amounts)) (carriesFit (r .cells) (r .carries))))
-  where
-    once : (c a s : Bool) → (c && a) && (c && s) ≡ c && a && s
-    once true a s = refl
-    once false a s = refl
+wrong-tested r right e = ap not (sym e)
 
 -- A river of which check 4 does not hold.
 module _ (r : River) (right : riverWrong r ≡ false) where

@@ -67,22 +67,21 @@ pub(crate) fn cells_fit(n: u32) -> bool
     1 <= n && n <= CELLS as u32
 }
 
-// Check 4 in two parts, one for each array: the number of cells fits, and so do the amounts of these cells.
-pub(crate) fn amounts_right(cells: u32, amounts: &[i64; AMOUNTS]) -> bool
-    ensures { λ r. ⌜ r ≡ (cellsFit cells && amountsFit cells (now (amounts .entry))) ⌝ }
+// Whether check 4 passes a river of these parts. Both arrays are lent for one lifetime, so that a caller can lend two
+// fields of one river.
+pub(crate) fn river_right<'a>(
+    cells: u32,
+    amounts: &'a [i64; AMOUNTS],
+    carries: &'a [u32; CARRIES],
+) -> bool
+    ensures { λ r. ⌜ r ≡ (cellsFit cells && amountsFit cells (now (amounts .entry)) && carriesFit cells (now (carries .entry))) ⌝ }
 {
-    if cells_fit(cells) {
-        return amounts_fit(cells as usize, amounts);
+    if !cells_fit(cells) {
+        return false;
     }
-    false
-}
-
-// The number of cells fits, and so do the carries of these cells.
-pub(crate) fn carries_right(cells: u32, carries: &[u32; CARRIES]) -> bool
-    ensures { λ r. ⌜ r ≡ (cellsFit cells && carriesFit cells (now (carries .entry))) ⌝ }
-{
-    if cells_fit(cells) {
-        return carries_fit(cells as usize, carries);
+    let n = cells as usize;
+    if !amounts_fit(n, amounts) {
+        return false;
     }
-    false
+    carries_fit(n, carries)
 }

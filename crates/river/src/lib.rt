@@ -11,9 +11,8 @@ use crate::amounts::amounts_fit;
 use crate::cells::NH4;
 use crate::cells::O2;
 use crate::cells::letter;
-use crate::check::amounts_right;
-use crate::check::carries_right;
 use crate::check::cells_fit;
+use crate::check::river_right;
 use crate::flow::left_all;
 use crate::flow::move_amounts;
 use crate::load::amount_at;
@@ -137,9 +136,7 @@ pub struct Letter {
 pub fn river_wrong(river: River) -> bool
     ensures answer { λ r. ⌜ r ≡ riverWrong river ⌝ }
 {
-    let amounts = amounts_right(river.cells, &river.amounts);
-    let carries = carries_right(river.cells, &river.carries);
-    !both(amounts, carries)
+    !river_right(river.cells, &river.amounts, &river.carries)
 }
 
 // The amounts of the river's cells are in their bounds, all others are 0. A number of cells above 8 is taken for 8.
@@ -188,9 +185,7 @@ pub fn load_river(river: River, cell: u32, substance: u32, number: i64) -> Chang
     // The answer's river is tested and changed in place: no other copy of it is made.
     let mut answer = Changed { number: 0, river };
     let cells = answer.river.cells;
-    let amounts = amounts_right(cells, &answer.river.amounts);
-    let carries = carries_right(cells, &answer.river.carries);
-    if !both(amounts, carries) {
+    if !river_right(cells, &answer.river.amounts, &answer.river.carries) {
         answer.number = 4;
         return answer;
     }
@@ -221,9 +216,7 @@ pub fn flow_river(river: River, part: u32) -> Flowed
         left: [0; AMOUNTS],
     };
     let cells = answer.river.cells;
-    let amounts = amounts_right(cells, &answer.river.amounts);
-    let carries = carries_right(cells, &answer.river.carries);
-    if !both(amounts, carries) {
+    if !river_right(cells, &answer.river.amounts, &answer.river.carries) {
         answer.number = 4;
         return answer;
     }
@@ -250,9 +243,7 @@ pub fn air_river(river: River, cell: u32, constant: u32, seconds: u32, saturatio
         amount: 0,
     };
     let cells = answer.river.cells;
-    let amounts = amounts_right(cells, &answer.river.amounts);
-    let carries = carries_right(cells, &answer.river.carries);
-    if !both(amounts, carries) {
+    if !river_right(cells, &answer.river.amounts, &answer.river.carries) {
         answer.number = 4;
         return answer;
     }

@@ -23,14 +23,11 @@ use Rattle.river.proofs.AirLaws.{oxygen-bound, air-never-eight}
 use Rattle.river.proofs.air_river.Statement.{statement}
 use Rattle.river.proofs.air_river.Tie as tie
 
-abbrev begun : tie.After-both → tie.Start
-begun c = c .before .before .before .before .before .before .before
+abbrev begun : tie.After-river-right → tie.Start
+begun c = c .before .before .before .before
 
-wrong : (c : tie.After-both) → riverWrong (begun c .args .river) ≡ not (c .both .result)
-wrong c =
-    let carries = c .before in
-    let amounts = carries .before .before .before in
-    wrong-tested (begun c .args .river) _ _ _ (amounts .amounts-right .ensures) (carries .carries-right .ensures) (c .both .ensures)
+wrong : (c : tie.After-river-right) → riverWrong (begun c .args .river) ≡ not (c .river-right .result)
+wrong c = wrong-tested (begun c .args .river) _ (c .river-right .ensures)
 
 right : (c : tie.Else1) → riverWrong (begun (c .before) .args .river) ≡ false
 right c = wrong (c .before) ∙ c .if1 .left
@@ -86,14 +83,8 @@ gain-kept c =
     toZ-ofZ (sfits-of (c .gain-of .ok))
     ∙ (rw (c .before .amount-at .ensures, amount-kept (c .before .before .before .before)) at (c .gain-of .ensures))
 
-amounts-right-requires : tie.Need-amounts-right-requires
-amounts-right-requires c κs = search needs
-
-carries-right-requires : tie.Need-carries-right-requires
-carries-right-requires c κs = search needs
-
-both-requires : tie.Need-both-requires
-both-requires c κs = search needs
+river-right-requires : tie.Need-river-right-requires
+river-right-requires c κs = search needs
 
 -- Refused by 4.
 returns : tie.Need-returns
@@ -173,9 +164,7 @@ pub air-river-spec : {M : Type 1} → statement M
 air-river-spec =
     tie.close
     (tie.spec
-    amounts-right-requires
-    carries-right-requires
-    both-requires
+    river-right-requires
     returns
     cell-exists-requires
     returns-2

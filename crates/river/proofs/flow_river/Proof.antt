@@ -12,14 +12,11 @@ use borrow.Author.Needs.{needs}
 use Rattle.river.proofs.flow_river.Statement.{statement}
 use Rattle.river.proofs.flow_river.Tie as tie
 
-abbrev begun : tie.After-both → tie.Start
-begun c = c .before .before .before .before .before .before .before
+abbrev begun : tie.After-river-right → tie.Start
+begun c = c .before .before .before .before
 
-wrong : (c : tie.After-both) → riverWrong (begun c .args .river) ≡ not (c .both .result)
-wrong c =
-    let carries = c .before in
-    let amounts = carries .before .before .before in
-    wrong-tested (begun c .args .river) _ _ _ (amounts .amounts-right .ensures) (carries .carries-right .ensures) (c .both .ensures)
+wrong : (c : tie.After-river-right) → riverWrong (begun c .args .river) ≡ not (c .river-right .result)
+wrong c = wrong-tested (begun c .args .river) _ (c .river-right .ensures)
 
 right : (c : tie.Else1) → riverWrong (begun (c .before) .args .river) ≡ false
 right c = wrong (c .before) ∙ c .if1 .left
@@ -27,14 +24,8 @@ right c = wrong (c .before) ∙ c .if1 .left
 long : (c : tie.Start) → length (c .args .river .amounts) ≡ 144
 long c = search needs
 
-amounts-right-requires : tie.Need-amounts-right-requires
-amounts-right-requires c κs = search needs
-
-carries-right-requires : tie.Need-carries-right-requires
-carries-right-requires c κs = search needs
-
-both-requires : tie.Need-both-requires
-both-requires c κs = search needs
+river-right-requires : tie.Need-river-right-requires
+river-right-requires c κs = search needs
 
 -- Refused by 4.
 returns : tie.Need-returns
@@ -85,9 +76,7 @@ pub flow-river-spec : {M : Type 1} → statement M
 flow-river-spec =
     tie.close
     (tie.spec
-    amounts-right-requires
-    carries-right-requires
-    both-requires
+    river-right-requires
     returns
     returns-2
     left-all-requires

@@ -22,14 +22,11 @@ use Rattle.river.proofs.Rivers.{wrong-tested, river-cells, amount-fits-
 use Rattle.river.proofs.load_river.Statement.{statement}
 use Rattle.river.proofs.load_river.Tie as tie
 
-abbrev begun : tie.After-both → tie.Start
-begun c = c .before .before .before .before .before .before .before
+abbrev begun : tie.After-river-right → tie.Start
+begun c = c .before .before .before .before
 
-wrong : (c : tie.After-both) → riverWrong (begun c .args .river) ≡ not (c .both .result)
-wrong c =
-    let carries = c .before in
-    let amounts = carries .before .before .before in
-    wrong-tested (begun c .args .river) _ _ _ (amounts .amounts-right .ensures) (carries .carries-right .ensures) (c .both .ensures)
+wrong : (c : tie.After-river-right) → riverWrong (begun c .args .river) ≡ not (c .river-right .result)
+wrong c = wrong-tested (begun c .args .river) _ (c .river-right .ensures)
 
 right : (c : tie.Else1) → riverWrong (begun (c .before) .args .river) ≡ false
 right c = wrong (c .before) ∙ c .if1 .left
@@ -44,7 +41,7 @@ unfolding cellExists
 exist c =
     let at-substance = c .before .before in
     let at-cell = at-substance .before in
-    rw (← at-cell .cell-exists .ensures, ← at-substance .substance-exists .ensures, ← c .before .both2 .ensures)
+    rw (← at-cell .cell-exists .ensures, ← at-substance .substance-exists .ensures, ← c .before .both .ensures)
     (not-false _ (c .if2 .left))
 
 cell-known : (c : tie.Else2) → (1 ≤ start c .args .cell) × (start c .args .cell ≤ start c .args .river .cells)
@@ -93,14 +90,8 @@ sum-fits c =
     let substance = substance-known at-checks in
     fits-abs _ (omega (arith, fits-bound (a .substance - 1) (amount at-checks +ℤ a .number) (omega arith) in-bounds))
 
-amounts-right-requires : tie.Need-amounts-right-requires
-amounts-right-requires c κs = search needs
-
-carries-right-requires : tie.Need-carries-right-requires
-carries-right-requires c κs = search needs
-
-both-requires : tie.Need-both-requires
-both-requires c κs = search needs
+river-right-requires : tie.Need-river-right-requires
+river-right-requires c κs = search needs
 
 -- Refused by 4.
 returns : tie.Need-returns
@@ -113,8 +104,8 @@ cell-exists-requires c κs = search needs
 substance-exists-requires : tie.Need-substance-exists-requires
 substance-exists-requires c κs = search needs
 
-both-requires-2 : tie.Need-both-requires-2
-both-requires-2 c κs = search needs
+both-requires : tie.Need-both-requires
+both-requires c κs = search needs
 
 -- Refused by 5.
 returns-2 : tie.Need-returns-2
@@ -127,7 +118,7 @@ returns-2 c =
       right (at-cell .before),
       ← at-cell .cell-exists .ensures,
       ← at-substance .substance-exists .ensures,
-      ← at-both .both2 .ensures,
+      ← at-both .both .ensures,
       c .if2 .taken,
     )
 
@@ -204,13 +195,11 @@ pub load-river-spec : {M : Type 1} → statement M
 load-river-spec =
     tie.close
     (tie.spec
-    amounts-right-requires
-    carries-right-requires
-    both-requires
+    river-right-requires
     returns
     cell-exists-requires
     substance-exists-requires
-    both-requires-2
+    both-requires
     returns-2
     sub-c
     cast-c
