@@ -19,11 +19,12 @@ const KINDS: [(char, &str); 9] = [
     ('R', "record read"),
     ('p', "frame"),
 ];
-/// Runs of each program for each kind. The best counts, since everything else that
-/// the machine does can only slow a run down.
-const ROUNDS: u32 = 7;
-/// How long a run is to take, so that starting the program is next to nothing.
-const RUN: Duration = Duration::from_millis(300);
+/// Runs of each program for each kind, in turn. The best counts, since everything
+/// else that the machine does can only slow a run down; many short runs find a
+/// moment in which it does little.
+const ROUNDS: u32 = 40;
+/// How long a run is to take. What starting the program takes is measured apart.
+const RUN: Duration = Duration::from_millis(50);
 /// The programs make no more calls than this.
 const MOST_CALLS: u64 = 1_000_000_000;
 
@@ -32,6 +33,7 @@ fn main() -> Result<ExitCode, Error> {
     let (Some(library), Some(reference)) = (arguments.next(), arguments.next()) else {
         return Err(Error::new(ErrorKind::InvalidInput, "asks for two programs"));
     };
+    let start = (starting(&library)?, starting(&reference)?);
     let mut empty = (0.0, 0.0);
     let mut equal = true;
     println!("{:14} {:>12} {:>12} {:>7}", "ns per call", "library", "reference", "ratio");
@@ -51,7 +53,8 @@ fn main() -> Result<ExitCode, Error> {
             }
         }
         let each = |time: Duration| time.as_nanos() as f64 / calls as f64;
-        let times = (each(best.0) - empty.0, each(best.1) - empty.1);
+        let made = (best.0.saturating_sub(start.0), best.1.saturating_sub(start.1));
+        let times = (each(made.0) - empty.0, each(made.1) - empty.1);
         println!("{name:14} {:12.1} {:12.1} {:7.2}", times.0, times.1, times.0 / times.1);
         if letter == KINDS[0].0 {
             empty = times;
@@ -59,6 +62,15 @@ fn main() -> Result<ExitCode, Error> {
     }
     println!("checksums {}", if equal { "equal" } else { "differ" });
     Ok(if equal { ExitCode::SUCCESS } else { ExitCode::FAILURE })
+}
+
+/// How long a program runs that makes no turn, at its best.
+fn starting(program: &str) -> Result<Duration, Error> {
+    let mut best = Duration::MAX;
+    for _ in 0..ROUNDS {
+        best = best.min(run(program, KINDS[0].0, 0)?.0);
+    }
+    Ok(best)
 }
 
 /// How many calls of a kind take about as long as a run is to take.
