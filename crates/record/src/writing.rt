@@ -1,6 +1,6 @@
 // Lines written into lent bytes, cell by cell.
 ghost use mathlib.Core.Path.{_≡_};
-ghost use Prim.Native.Nat.{ℕ, _+_, _*_, _≤_, _<_};
+ghost use Prim.Native.Nat.{_+_, _*_, _≤_, _<_};
 ghost use lib.ListN.{length};
 ghost use lib.IntN.{pos};
 ghost use Rattle.text.specs.Writes.{put};
@@ -40,8 +40,11 @@ fn write_front(line: &mut [u8], cell: u32, numbers: &[u8; NUMBER_BYTES], k: usiz
 {
     write_two(line, 0, cell);
     line[2] = b' ';
-    line[3] = numbers[k * 2];
-    line[4] = numbers[k * 2 + 1];
+    // Both are read before one is stored, so that they are copied at once.
+    let tens = numbers[k * 2];
+    let ones = numbers[k * 2 + 1];
+    line[3] = tens;
+    line[4] = ones;
     line[5] = b' ';
 }
 

@@ -12,23 +12,23 @@ write-two-requires c κs = search needs
 slice-write-line : tie.Need-slice-write-line
 slice-write-line c = search needs
 
-mul-line : tie.Need-mul-line
-mul-line c = search needs
+mul-tens : tie.Need-mul-tens
+mul-tens c = search needs
 
-element-copy-out-line : tie.Need-element-copy-out-line
-element-copy-out-line c = search needs
+element-copy-out-tens : tie.Need-element-copy-out-tens
+element-copy-out-tens c = search needs
+
+mul-ones : tie.Need-mul-ones
+mul-ones c = search needs
+
+add-ones : tie.Need-add-ones
+add-ones c = search needs
+
+element-copy-out-ones : tie.Need-element-copy-out-ones
+element-copy-out-ones c = search needs
 
 slice-write-line-2 : tie.Need-slice-write-line-2
-slice-write-line-2 c = simp length-set (omega (arith, c .before .before .before .write-two .kept .0))
-
-mul-line-2 : tie.Need-mul-line-2
-mul-line-2 c = search needs
-
-add-line : tie.Need-add-line
-add-line c = search needs
-
-element-copy-out-line-2 : tie.Need-element-copy-out-line-2
-element-copy-out-line-2 c = search needs
+slice-write-line-2 c = simp length-set (omega (arith, c .before .before .before .before .write-two .kept .0))
 
 slice-write-line-3 : tie.Need-slice-write-line-3
 slice-write-line-3 c = simp length-set (omega (arith, c .before .before .before .before .write-two .kept .0))
@@ -53,12 +53,12 @@ write-front-spec =
     (tie.spec
     write-two-requires
     slice-write-line
-    mul-line
-    element-copy-out-line
+    mul-tens
+    element-copy-out-tens
+    mul-ones
+    add-ones
+    element-copy-out-ones
     slice-write-line-2
-    mul-line-2
-    add-line
-    element-copy-out-line-2
     slice-write-line-3
     slice-write-line-4
     same-length
