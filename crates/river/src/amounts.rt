@@ -84,7 +84,7 @@ fn each_fits(amounts: &[i64; AMOUNTS], start: usize, first: usize, end: usize) -
     true
 }
 
-// The bits of `count` amounts joined. Where that is not below zero, each amount is from 0 to it.
+// The bits of `count` amounts from `start` on, joined. Where that is not below zero, each of them is from 0 to it.
 fn joined(amounts: &[i64; AMOUNTS], start: usize, count: usize) -> i64
     requires { ⌜ start + count ≤ mostCells * substances ⌝ }
     ensures { λ r. ⌜ Covers (now (amounts .entry)) start count r ⌝ }
@@ -98,8 +98,8 @@ fn joined(amounts: &[i64; AMOUNTS], start: usize, count: usize) -> i64
     bits
 }
 
-// The same by one test, for substances with the same bounds, from 0 on: true only where each amount fits. Joined bits
-// may be past the most where no amount is, so false tells nothing.
+// As `each_fits`, by one test, for substances that have the same bounds, from 0 on: true only where each amount fits.
+// Joined bits may be past the most where no amount is, so false tells nothing.
 fn run_fits(amounts: &[i64; AMOUNTS], start: usize, first: usize, end: usize) -> bool
     requires { ⌜ (start + substances ≤ mostCells * substances) × (first < end) × (end ≤ substances) ⌝ }
     requires { ⌜ SameBounds first end ⌝ }
