@@ -15,12 +15,12 @@ use Rattle.stoichiometry.specs.declared.Set.{Set}
 use Rattle.stoichiometry.specs.Substances.{substances, o2, place, Total, contents}
 use Rattle.kinetics.specs.declared.Conditions.{Conditions}
 use Rattle.river.specs.declared.River.{River}
-use Rattle.river.specs.declared.Flowed.{Flowed}
-use Rattle.river.specs.declared.Aired.{Aired}
-use Rattle.river.specs.Rivers.{amountFits, amountsFit, riverWrong}
-use Rattle.river.specs.Load.{cellExists, substanceExists, loadedAmount, loadNumber, loadAnswer}
-use Rattle.river.specs.Flow.{leftOf, flowedAmounts, flowNumber, flowAnswer}
-use Rattle.river.specs.Air.{gainAt, airedAmount, airNumber, airAnswer}
+use Rattle.transport.specs.declared.Flowed.{Flowed}
+use Rattle.transport.specs.declared.Aired.{Aired}
+use Rattle.river.specs.Rivers.{amountFits, amountsFit, riverWrong, cellExists, substanceExists}
+use Rattle.transport.specs.Load.{loadedAmount, loadNumber, loadAnswer}
+use Rattle.transport.specs.Flow.{leftOf, flowedAmounts, flowNumber, flowAnswer}
+use Rattle.transport.specs.Air.{gainAt, airedAmount, airNumber, airAnswer}
 use Rattle.river.specs.Cells.{cellTotal}
 use Rattle.river.proofs.Rivers.{river-cells, cell-bound, substance-bound}
 use Rattle.step.specs.Steps.{steppedAmounts, stepNumber, stepAnswer}

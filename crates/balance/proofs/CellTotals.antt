@@ -23,7 +23,7 @@ use Rattle.stoichiometry.proofs.Balance.{process-balance}
 use Rattle.kinetics.specs.declared.Conditions.{Conditions}
 use Rattle.river.specs.declared.River.{River}
 use Rattle.river.specs.Rivers.{mostCells, amountAt, carryAt}
-use Rattle.river.specs.Flow.{cameAt, movedOf}
+use Rattle.transport.specs.Flow.{cameAt, movedOf}
 use Rattle.river.specs.Cells.{cellTotal}
 use Rattle.step.specs.Steps.{batches, newAmount, steppedAmounts}
 use Rattle.balance.specs.Calls.{listed}

@@ -20,7 +20,7 @@ use Rattle.stoichiometry.specs.Substances.{substances, Total, contents}
 use Rattle.kinetics.specs.declared.Conditions.{Conditions}
 use Rattle.river.specs.declared.River.{River}
 use Rattle.river.specs.Rivers.{mostCells}
-use Rattle.river.specs.Flow.{movedOf}
+use Rattle.transport.specs.Flow.{movedOf}
 use Rattle.river.specs.Cells.{cellTotal}
 use Rattle.step.specs.Steps.{steppedAmounts}
 use Rattle.balance.specs.Calls.{among, listed}

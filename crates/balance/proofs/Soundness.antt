@@ -21,8 +21,8 @@ use Rattle.stoichiometry.specs.Rows.{processes}
 use Rattle.kinetics.specs.declared.Conditions.{Conditions}
 use Rattle.river.specs.declared.River.{River}
 use Rattle.river.specs.Rivers.{mostCells, amountFits, amountsFit, carriesFit, riverWrong, zeroRiver}
-use Rattle.river.specs.Load.{withAmount}
-use Rattle.river.specs.Flow.{movedOf}
+use Rattle.transport.specs.Load.{withAmount}
+use Rattle.transport.specs.Flow.{movedOf}
 use Rattle.river.proofs.Rivers.{river-cells, river-amounts, river-carries, river-right, zero-right}
 use Rattle.step.specs.Steps.{newCarry, steppedAmounts, steppedCarries, stepped}
 

@@ -7,9 +7,9 @@ use Rattle.numeric.specs.Sum.{sum}
 use Rattle.stoichiometry.specs.declared.Set.{Set}
 use Rattle.stoichiometry.specs.Substances.{Total}
 use Rattle.river.specs.declared.River.{River}
-use Rattle.river.specs.Load.{loadAnswer}
-use Rattle.river.specs.Flow.{flowAnswer}
-use Rattle.river.specs.Air.{airAnswer}
+use Rattle.transport.specs.Load.{loadAnswer}
+use Rattle.transport.specs.Flow.{flowAnswer}
+use Rattle.transport.specs.Air.{airAnswer}
 use Rattle.river.specs.Cells.{cellTotal}
 use Rattle.step.specs.Steps.{stepAnswer}
 use Rattle.balance.specs.Calls.{Call, load, flow, air, step, Answer, Entry}

@@ -59,11 +59,11 @@ fn rows(figures: Figures) -> Told {
 }
 
 fn load(line: Line, river: River) -> Answer {
-    changed(river::load_river(river, line.figure(0), line.figure(1), line.signed(2)))
+    changed(transport::load_river(river, line.figure(0), line.figure(1), line.signed(2)))
 }
 
 fn flow(line: Line, before: River) -> Answer {
-    let answer = river::flow_river(before, line.figure(0));
+    let answer = transport::flow_river(before, line.figure(0));
     let river = answer.river;
     Answer {
         number: answer.number,
@@ -73,7 +73,7 @@ fn flow(line: Line, before: River) -> Answer {
 }
 
 fn air(line: Line, before: River) -> Answer {
-    let answer = river::air_river(
+    let answer = transport::air_river(
         before,
         line.figure(0),
         line.figure(1),

@@ -139,12 +139,12 @@ fn of_read(answer: Changed) -> Told {
 
 fn read_part(bytes: [u8; ROOM], length: usize) -> Told {
     let end = within_room(length);
-    of_read(record::read_record(&bytes[0..end]))
+    of_read(record_reading::read_record(&bytes[0..end]))
 }
 
 fn of_lines(text: &[u8], cell: u32) -> Told {
-    let number = record::number_of_cell(text, cell);
-    let lines = record::lines_of_cell(text, cell);
+    let number = record_reading::number_of_cell(text, cell);
+    let lines = record_reading::lines_of_cell(text, cell);
     Told {
         number,
         digest: with_bytes(with(START, lines.len() as u64), lines),

@@ -9,7 +9,7 @@ const LONGEST: usize = CELLS * record::CELL_BYTES;
 fn main() {
     let mut text = [0; LONGEST + 1];
     let n = io::read_full(STDIN_FILENO, &mut text);
-    let read = record::read_record(&text[..n]);
+    let read = record_reading::read_record(&text[..n]);
     let mut output = [0; LONGEST];
     let mut work = [0; LONGEST];
     let river = read.river;

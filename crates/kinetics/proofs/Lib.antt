@@ -1,3 +1,4 @@
+pub mod ConditionLaws
 pub mod FactorLaws
 pub mod RateBounds
 pub mod Uptake

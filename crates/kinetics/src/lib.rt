@@ -1,4 +1,8 @@
-// How fast the processes run: levels, factors, products and extents of one cell.
+// How fast the processes run: levels, factors, products and extents of one cell; the conditions that a step is given, and
+// their check.
+ghost use mathlib.Core.Path.{_≡_};
+ghost use Rattle.kinetics.specs.Conditions.{temperaturesFit, conditionsWrong};
+use numeric::both;
 
 // Temperature factors, millionths: of XH, XN1, XN2, XALG and hydrolysis.
 pub struct Temperatures {
@@ -23,4 +27,29 @@ impl Conditions {
     pub const LIGHT_MOST: u32 = 1000000;
 
     pub const TEMPERATURE_MOST: u32 = 4000000;
+}
+
+fn temperatures_fit(t: Temperatures) -> bool
+    ensures { λ r. ⌜ r ≡ temperaturesFit t ⌝ }
+{
+    let most = Conditions::TEMPERATURE_MOST;
+    both(
+        both(
+            both(both(t.xh <= most, t.xn1 <= most), t.xn2 <= most),
+            t.algae <= most,
+        ),
+        t.hydrolysis <= most,
+    )
+}
+
+// Check 6 of a step.
+pub fn conditions_wrong(given: Conditions) -> bool
+    ensures answer { λ r. ⌜ r ≡ conditionsWrong given ⌝ }
+{
+    let seconds = both(
+        1 <= given.seconds,
+        given.seconds <= Conditions::SECONDS_MOST,
+    );
+    let light = given.light <= Conditions::LIGHT_MOST;
+    !both(both(seconds, light), temperatures_fit(given.temperatures))
 }

@@ -1,14 +1,10 @@
--- Worked cases, each by computation: lines as bytes, and lines that are read or refused. No assumptions.
-use Prim.Native.Nat.{ℕ}
-use mathlib.Core.List.{List, [], _∷_, _++_, map}
+-- Worked cases, each by computation: lines as bytes. No assumptions.
+use mathlib.Core.List.{[], _∷_, _++_}
 use mathlib.Core.Path.{_≡_, refl}
 use lib.IntN.{pos, negsuc}
 use lib.ListN.{replicate}
-use Rattle.text.specs.declared.Number.{Number}
 use Rattle.text.specs.Decimals.{glyph, nextMark, columns, plain, decimal}
-use Rattle.text.specs.Reading.{isDigit, digit, other, next, runOn, accepted, none, signed, within, finish, parse}
 use Rattle.record.specs.Lines.{front, line}
-use Rattle.record.specs.Reading.{sameBytes, lineNumber, lowestOn, highestOn}
 
 -- " 1  1                    0" and a line feed.
 line-first : line 1 1 (pos 0) ≡ (32 ∷ 49 ∷ 32 ∷ 32 ∷ 49 ∷ 32 ∷ []) ++ replicate 19 32 ++ (48 ∷ 10 ∷ [])
@@ -20,31 +16,3 @@ line-last : line 8 35 (negsuc 999999999999999999)
     ≡ (32 ∷ 56 ∷ 32 ∷ 51 ∷ 53 ∷ 32 ∷ []) ++ (45 ∷ 49 ∷ replicate 18 48) ++ (10 ∷ [])
 unfolding glyph nextMark columns plain decimal front line
 line-last = refl
-
--- A line that is read as line 9 of cell 1, the amount of H+.
-abbrev read : List ℕ → Number
-read l = lineNumber l 1 9 (lowestOn 8) (highestOn 8)
-
--- " 1  9 ", 18 blanks, then the bytes given.
-abbrev ending : List ℕ → List ℕ
-ending bytes = (32 ∷ 49 ∷ 32 ∷ 32 ∷ 57 ∷ 32 ∷ []) ++ replicate 18 32 ++ bytes
-
--- The line of −7, written and by its bytes.
-line-read-back : read (line 1 9 (negsuc 6)) ≡ accepted (negsuc 6)
-unfolding glyph nextMark columns plain decimal front line isDigit digit other next runOn signed within finish parse
-    sameBytes lineNumber lowestOn highestOn
-line-read-back = refl
-
-bytes-read : read (ending (45 ∷ 55 ∷ 10 ∷ [])) ≡ accepted (negsuc 6)
-unfolding glyph nextMark columns plain decimal front line isDigit digit other next runOn signed within finish parse
-    sameBytes lineNumber lowestOn highestOn
-bytes-read = refl
-
--- "-0", "+1", "01", and "-7" with a carriage return (13) for the line feed, are refused, and the line of another cell.
-lines-refused : map read
-    (ending (45 ∷ 48 ∷ 10 ∷ []) ∷ ending (43 ∷ 49 ∷ 10 ∷ []) ∷ ending (48 ∷ 49 ∷ 10 ∷ []) ∷ ending (45 ∷ 55 ∷ 13 ∷ [])
-    ∷ line 2 9 (negsuc 6) ∷ [])
-    ≡ replicate 5 none
-unfolding glyph nextMark columns plain decimal front line isDigit digit other next runOn signed within finish parse
-    sameBytes lineNumber lowestOn highestOn
-lines-refused = refl

@@ -25,7 +25,7 @@ use Rattle.record.specs.Lines.{lines, lineBytes, cellBytes, front, line,
 use Rattle.record.specs.Stages.{lineNumbers}
 use Rattle.record.specs.Writing.{writeNumber, writtenOver}
 use Rattle.record.proofs.LineLaws.{front-length, line-length, cell-length}
-use Rattle.record.proofs.RecordLaws.{record-bytes}
+use Rattle.record.proofs.LineLaws.{record-bytes}
 
 -- What a buffer begins with after a write at its start.
 take-put : (l xs : List ℕ) (n : ℕ) → n ≡ length xs → take n (put l 0 xs) ≡ xs

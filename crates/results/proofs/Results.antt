@@ -21,19 +21,20 @@ use Rattle.kinetics.specs.Factors.{monod, inhibition, times}
 use Rattle.kinetics.specs.Rates.{levelsOf, takesPhosphate, takesNitrogen, productsOf, quota, extent, extentAt}
 use Rattle.river.specs.declared.River.{River}
 use Rattle.river.specs.Rivers.{mostCells, riverWrong, zeroRiver, levelOf}
-use Rattle.river.specs.Flow.{passing, flowNumber}
-use Rattle.river.specs.Air.{exchanged, gain, airNumber}
-use Rattle.river.proofs.FlowLaws.{flow-number-not-eight}
-use Rattle.river.proofs.AirLaws.{air-number-eight}
-use Rattle.step.specs.Steps.{carried, batches, newCarry, newAmount, temperaturesFit, conditionsWrong}
+use Rattle.transport.specs.Flow.{passing, flowNumber}
+use Rattle.transport.specs.Air.{exchanged, gain, airNumber}
+use Rattle.transport.proofs.FlowLaws.{flow-number-not-eight}
+use Rattle.transport.proofs.AirLaws.{air-number-eight}
+use Rattle.kinetics.specs.Conditions.{temperaturesFit, conditionsWrong}
+use Rattle.step.specs.Steps.{carried, batches, newCarry, newAmount}
 use Rattle.balance.specs.Calls.{Call, book}
 use Rattle.balance.specs.Held.{after, answered, held}
 use Rattle.balance.proofs.Demand3.{calls-balance}
 use Rattle.probe.specs.Readings.{scaledFloor}
 use Rattle.record.specs.Lines.{recordOf}
-use Rattle.record.specs.Reading.{isRecord, readAnswer}
-use Rattle.record.proofs.ReadAnswers.{read-refused}
-use Rattle.record.proofs.RecordLaws as Records
+use Rattle.record_reading.specs.Reading.{isRecord, readAnswer}
+use Rattle.record_reading.proofs.ReadAnswers.{read-refused}
+use Rattle.record_reading.proofs.RecordLaws as Records
 use Rattle.results.specs.Starred.{starred}
 
 -- Demand 3: after every list of loads, flows, air exchanges and steps from a fresh river of 1 to 8 cells under an

@@ -18,9 +18,10 @@ use Rattle.stoichiometry.specs.Rows.{rowEntry}
 use Rattle.stoichiometry.specs.Sets.{setNumber}
 use Rattle.kinetics.specs.declared.Conditions.{Conditions}
 use Rattle.kinetics.specs.Factors.{monod}
-use Rattle.river.specs.Flow.{passing}
-use Rattle.river.specs.Air.{gain}
-use Rattle.step.specs.Steps.{newAmount, newCarry, conditionsWrong}
+use Rattle.transport.specs.Flow.{passing}
+use Rattle.transport.specs.Air.{gain}
+use Rattle.kinetics.specs.Conditions.{conditionsWrong}
+use Rattle.step.specs.Steps.{newAmount, newCarry}
 use Rattle.probe.specs.Frames.{massMicrograms}
 
 -- Hydrolysis at 3,000 thousandths per day, no other process.

@@ -1,11 +1,14 @@
 -- Bounds of an amount by the substance's place: where organics and net changes stand, what `lowestAt` and `highestAt`
 -- are there, and what is known of an amount that fits. Last, the machine's test for 0. No assumptions.
-use Prim.Native.Nat.{ℕ, _<_, _≤_}
+use Prim.Native.Nat.{ℕ, zero, suc, _<_, _≤_}
 use mathlib.Core.Bool.{Bool, true, false, not, _&&_, _||_, cond}
-use mathlib.Core.Path.{_≡_, refl, ap, _∙_}
-use borrow.Author.Tests.{not-true, eq-eqb, ne-eqb}
+use mathlib.Core.List.{map}
+use mathlib.Core.Path.{_≡_, refl, sym, ap, ap₂, _∙_}
+use native.Mathlib.Omega.{arith}
+use borrow.Author.Tests.{not-true, le-leb, lt-leb, eq-eqb, ne-eqb, eqb-true, eqb-false}
 use lib.Dec.{leb, ltb, eqb, lit≤}
-use lib.IntN.{ℤ, pos, negℤ, natAbs}
+use lib.IntN.{ℤ, pos, negsuc, negℤ, natAbs}
+use lib.ListN.{List·getD-eq-default}
 use lib.Signed.{leZ, _≤ℤ_}
 use mir.Facts.{sfits-lit}
 use mir.Syntax.{w64}
@@ -16,8 +19,8 @@ use Rattle.numeric.proofs.Bounds.{abs-zero, abs-between, abs-of-nonneg}
 use Rattle.numeric.proofs.CheckLaws.{and-left, and-right, every-at}
 use Rattle.numeric.proofs.Comparison.{leZ-true, bits-eq}
 use Rattle.numeric.proofs.TableLaws.{getD-tab}
-use Rattle.stoichiometry.specs.Substances.{substances}
-use Rattle.river.specs.Rivers.{lowestAt, highestAt, amountFits}
+use Rattle.stoichiometry.specs.Substances.{substances, order}
+use Rattle.river.specs.Rivers.{lowest, highest, lowestAt, highestAt, amountFits}
 
 -- The substance at a place is an organic; it is H+ or H2O.
 abbrev pub organicAt : ℕ → Bool
@@ -40,6 +43,14 @@ lowest-kind s h = getD-tab substances (λ k. lowestOf (netAt k)) s (pos 0) h
 pub highest-kind : (s : ℕ) → s < substances → highestAt s ≡ highestOf (organicAt s) (netAt s)
 unfolding highestAt tab
 highest-kind s h = getD-tab substances (λ k. highestOf (organicAt k) (netAt k)) s (pos 0) h
+
+-- From place 18 on both bounds are 0.
+fits-none : (s : ℕ) (x : ℤ) → substances ≤ s → amountFits s x ≡ leZ (pos 0) x && leZ x (pos 0)
+unfolding amountFits lowestAt highestAt
+fits-none s x h =
+    let low = List·getD-eq-default (map lowest order) (pos 0) {n = s} h in
+    let high = List·getD-eq-default (map highest order) (pos 0) {n = s} h in
+    ap₂ (λ (a b : ℤ). leZ a x && leZ x b) low high
 
 module _ (s : ℕ) (x : ℤ) where
   pub fits-lowest : amountFits s x ≡ true → lowestAt s ≤ℤ x
@@ -99,3 +110,17 @@ zero-bits z f e = eq-eqb (natAbs z) 0 (ap natAbs (bits-eq f (sfits-lit {z = pos 
 
 pub nonzero-bits : (z : ℤ) → (ofZ w64 z ≡ 0 → ⊥) → eqb (natAbs z) 0 ≡ false
 nonzero-bits z h = ne-eqb (natAbs z) 0 (λ e. h (ap (ofZ w64) (abs-zero z e)))
+
+-- The only number from 0 to 0.
+zero-alone : (z : ℤ) → eqb (natAbs z) 0 ≡ leZ (pos 0) z && leZ z (pos 0)
+zero-alone (pos zero) = refl
+zero-alone (pos (suc n)) = rw (ne-eqb (suc n) 0 (λ e. absurd (omega arith)), le-leb 0 (suc n) (omega arith), lt-leb (suc n) 0 (omega arith))
+zero-alone (negsuc n) = ne-eqb (suc n) 0 (λ e. absurd (omega arith))
+
+-- So from place 18 on the machine's test is that of the bounds.
+pub none-tested : (s : ℕ) (z : ℤ) → SFits w64 z → substances ≤ s → eqb (ofZ w64 z) 0 ≡ amountFits s z
+none-tested s z f h = test (eqb (ofZ w64 z) 0) refl ∙ zero-alone z ∙ sym (fits-none s z h)
+  where
+    test : (b : Bool) → eqb (ofZ w64 z) 0 ≡ b → eqb (ofZ w64 z) 0 ≡ eqb (natAbs z) 0
+    test true e = e ∙ sym (zero-bits z f (eqb-true (ofZ w64 z) 0 e))
+    test false e = e ∙ sym (nonzero-bits z (eqb-false (ofZ w64 z) 0 e))

@@ -1,9 +1,5 @@
 -- Laws by subject: bounds of amounts by the substance's place; runs of substances; amounts and carries within bounds,
--- and check 4; load; air; flow.
+-- and check 4.
 pub mod Bounds
 pub mod Runs
 pub mod Rivers
-pub mod LoadLaws
-pub mod AirLaws
-pub mod FlowLaws
-pub mod FlowLists

@@ -17,8 +17,7 @@ use Rattle.numeric.proofs.CheckLaws.{and-left, and-right, leb-within, every-at,
 use Rattle.stoichiometry.specs.Substances.{substances}
 use Rattle.stoichiometry.specs.Rows.{processes}
 use Rattle.river.specs.declared.River.{River}
-use Rattle.river.specs.Rivers.{mostCells, lowestAt, highestAt, amountFits, amountAt, carryAt, amountsFit, carriesFit, cellsFit, riverWrong, zeroRiver}
-use Rattle.river.specs.Load.{cellExists, substanceExists}
+use Rattle.river.specs.Rivers.{mostCells, lowestAt, highestAt, amountFits, amountAt, carryAt, amountsFit, carriesFit, cellsFit, riverRight, riverWrong, zeroRiver, cellExists, substanceExists}
 use Rattle.river.proofs.Bounds.{netAt, fits-bound, fits-level}
 
 -- The test of an amount and of a carry in a cell, and beyond the last cell.
@@ -177,8 +176,7 @@ river-right r l h a c = rw (le-leb 1 (r .cells) l, le-leb (r .cells) mostCells h
 
 -- Check 4 by the tests of its parts.
 pub wrong-tested : (r : River) (right : Bool)
-    → right ≡ cellsFit (r .cells) && amountsFit (r .cells) (r .amounts) && carriesFit (r .cells) (r .carries)
-    → riverWrong r ≡ not right
+    → right ≡ riverRight (r .cells) (r .amounts) (r .carries) → riverWrong r ≡ not right
 unfolding riverWrong
 wrong-tested r right e = ap not (sym e)
 

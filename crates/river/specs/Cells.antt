@@ -14,8 +14,7 @@ use Rattle.stoichiometry.specs.Sets.{rowsWrong}
 use Rattle.river.specs.declared.River.{River}
 use Rattle.river.specs.declared.Totals.{Totals}
 use Rattle.river.specs.declared.Letter.{Letter}
-use Rattle.river.specs.Rivers.{amountAt, levelOf, riverWrong}
-use Rattle.river.specs.Load.{cellExists}
+use Rattle.river.specs.Rivers.{amountAt, levelOf, riverWrong, cellExists}
 
 -- A total of a cell, counted from 0: the contents of all its amounts, added.
 unfoldable pub cellTotal : Set → Total → List ℤ → ℕ → ℤ

@@ -77,10 +77,22 @@ carriesFit n carries =
 unfoldable pub cellsFit : ℕ → Bool
 cellsFit n = leb 1 n && leb n mostCells
 
+-- A river of these parts is of 1 to 8 cells, its amounts and carries are in their bounds, and beyond its last cell are
+-- zeros.
+abbrev pub riverRight : ℕ → List ℤ → List ℕ → Bool
+riverRight n amounts carries = cellsFit n && amountsFit n amounts && carriesFit n carries
+
 -- Check 4: a river is not of 1 to 8 cells, or holds an amount or carry outside its bounds, or anything but zeros
 -- beyond its last cell.
 unfoldable pub riverWrong : River → Bool
-riverWrong r = not (cellsFit (r .cells) && amountsFit (r .cells) (r .amounts) && carriesFit (r .cells) (r .carries))
+riverWrong r = not (riverRight (r .cells) (r .amounts) (r .carries))
+
+-- A cell of the river by its number, 1 to the number of cells; a substance by its number, 1 to 18.
+unfoldable pub cellExists : River → ℕ → Bool
+cellExists r cell = leb 1 cell && leb cell (r .cells)
+
+unfoldable pub substanceExists : ℕ → Bool
+substanceExists substance = leb 1 substance && leb substance substances
 
 -- A river of n cells, all zeros.
 abbrev pub zeroRiver : ℕ → River

@@ -1,17 +1,14 @@
-// Check 4: a river is of 1 to 8 cells, its amounts and carries are in their bounds, and beyond its last cell are zeros.
+// The parts of check 4 but for the amounts: the number of cells, and the carries.
 ghost use mathlib.Core.Path.{_≡_};
-ghost use mathlib.Core.Bool.{_&&_};
 ghost use Prim.Native.Nat.{_+_, _*_, _-_, _≤_};
 ghost use lib.Dec.{leb, eqb};
 ghost use lib.ListN.{getD};
 ghost use Rattle.numeric.specs.Check.{every};
 ghost use Rattle.stoichiometry.specs.Rows.{processes};
-ghost use Rattle.river.specs.Rivers.{mostCells, amountsFit, carriesFit, cellsFit};
-use crate::AMOUNTS;
+ghost use Rattle.river.specs.Rivers.{mostCells, carriesFit, cellsFit};
 use crate::CARRIES;
 use crate::CELLS;
 use crate::River;
-use crate::amounts::amounts_fit;
 use numeric::both;
 use stoichiometry::PROCESSES;
 
@@ -48,7 +45,7 @@ fn no_carry_from(start: usize, carries: &[u32; CARRIES]) -> bool
 }
 
 // The carries of the first n cells are below one batch, all others are 0.
-fn carries_fit(n: usize, carries: &[u32; CARRIES]) -> bool
+pub(crate) fn carries_fit(n: usize, carries: &[u32; CARRIES]) -> bool
     requires { ⌜ n ≤ mostCells ⌝ }
     ensures { λ r. ⌜ r ≡ carriesFit n (now (carries .entry)) ⌝ }
 {
@@ -65,23 +62,4 @@ pub(crate) fn cells_fit(n: u32) -> bool
     ensures { λ r. ⌜ r ≡ cellsFit n ⌝ }
 {
     1 <= n && n <= CELLS as u32
-}
-
-// Whether check 4 passes a river of these parts. Both arrays are lent for one lifetime, so that a caller can lend two
-// fields of one river.
-pub(crate) fn river_right<'a>(
-    cells: u32,
-    amounts: &'a [i64; AMOUNTS],
-    carries: &'a [u32; CARRIES],
-) -> bool
-    ensures { λ r. ⌜ r ≡ (cellsFit cells && amountsFit cells (now (amounts .entry)) && carriesFit cells (now (carries .entry))) ⌝ }
-{
-    if !cells_fit(cells) {
-        return false;
-    }
-    let n = cells as usize;
-    if !amounts_fit(n, amounts) {
-        return false;
-    }
-    carries_fit(n, carries)
 }

@@ -1,34 +1,20 @@
-// The river: a train of 1 to 8 cells, by value, and the calls on it but for the step.
+// The river: a train of 1 to 8 cells, by value; a fresh one, check 4, and the letter of a cell.
 ghost use mathlib.Core.Path.{_≡_};
-ghost use Rattle.river.specs.Rivers.{amountsFit, riverWrong, zeroRiver, freshAnswer};
-ghost use Rattle.river.specs.Load.{loadAnswer};
-ghost use Rattle.river.specs.Flow.{flowAnswer};
-ghost use Rattle.river.specs.Air.{airAnswer};
+ghost use Rattle.river.specs.Rivers.{amountFits, amountsFit, riverRight, zeroRiver, freshAnswer};
 ghost use Rattle.river.specs.Cells.{letterAnswer};
-use crate::air::figure_wrong;
-use crate::air::gain_of;
+use crate::amounts::amount_fits;
 use crate::amounts::amounts_fit;
 use crate::cells::NH4;
 use crate::cells::O2;
 use crate::cells::letter;
+use crate::check::carries_fit;
 use crate::check::cells_fit;
-use crate::check::river_right;
-use crate::flow::left_all;
-use crate::flow::move_amounts;
-use crate::load::amount_at;
-use crate::load::cell_exists;
-use crate::load::set_amount;
-use crate::load::substance_exists;
-use crate::load::sum_fits;
 use numeric::both;
 use stoichiometry::SUBSTANCES;
 
-mod air;
 mod amounts;
 mod cells;
 mod check;
-mod flow;
-mod load;
 
 pub const CELLS: usize = 8;
 
@@ -99,21 +85,6 @@ pub struct Changed {
     pub river: River,
 }
 
-// The river after a flow, and what left each cell; on refusal the number, the river handed in, and zeros.
-pub struct Flowed {
-    pub number: u32,
-    pub river: River,
-    pub left: [i64; AMOUNTS],
-}
-
-// The river after air, and the signed amount of O2 it brought, grains; on refusal the number, the river handed in,
-// and 0.
-pub struct Aired {
-    pub number: u32,
-    pub river: River,
-    pub amount: i64,
-}
-
 // The six totals of one cell, grains; on refusal the number and zeros.
 pub struct Totals {
     pub number: u32,
@@ -131,23 +102,42 @@ pub struct Letter {
     pub letter: u8,
 }
 
-// Check 4: a river is not of 1 to 8 cells, or holds an amount or carry outside its bounds, or anything but zeros beyond
-// its last cell.
-pub fn river_wrong(river: River) -> bool
-    ensures answer { λ r. ⌜ r ≡ riverWrong river ⌝ }
+// Check 4 passes a river of these parts: it is of 1 to 8 cells, its amounts and carries are in their bounds, and beyond its
+// last cell are zeros. Both arrays are lent for one lifetime, so that a caller can lend two fields of one river.
+pub fn river_right<'a>(cells: u32, amounts: &'a [i64; AMOUNTS], carries: &'a [u32; CARRIES]) -> bool
+    ensures answer { λ r. ⌜ r ≡ riverRight cells (now (amounts .entry)) (now (carries .entry)) ⌝ }
 {
-    !river_right(river.cells, &river.amounts, &river.carries)
+    if !cells_fit(cells) {
+        return false;
+    }
+    let n = cells as usize;
+    if !amounts_fit(n, amounts) {
+        return false;
+    }
+    carries_fit(n, carries)
 }
 
-// The amounts of the river's cells are in their bounds, all others are 0. A number of cells above 8 is taken for 8.
-pub fn amounts_in_bounds(river: River) -> bool
-    ensures answer { λ r. ⌜ r ≡ amountsFit (river .cells) (river .amounts) ⌝ }
+// An amount of the substance at a place, counted from 0, is in its bounds. From place 18 on, where there is none, only
+// 0 is.
+pub fn amount_in_bounds(place: usize, amount: i64) -> bool
+    ensures answer { λ r. ⌜ r ≡ amountFits place amount ⌝ }
 {
-    let n = river.cells;
-    if n as usize <= CELLS {
-        amounts_fit(n as usize, &river.amounts)
+    if place < SUBSTANCES {
+        amount_fits(place, amount)
     } else {
-        amounts_fit(CELLS, &river.amounts)
+        amount == 0
+    }
+}
+
+// The amounts of a river's cells are in their bounds, all others are 0. A number of cells above 8 is taken for 8.
+pub fn amounts_in_bounds(cells: u32, amounts: &[i64; AMOUNTS]) -> bool
+    ensures answer { λ r. ⌜ r ≡ amountsFit cells (now (amounts .entry)) ⌝ }
+{
+    let n = cells as usize;
+    if n <= CELLS {
+        amounts_fit(n, amounts)
+    } else {
+        amounts_fit(CELLS, amounts)
     }
 }
 
@@ -156,7 +146,7 @@ pub fn amounts_in_bounds(river: River) -> bool
 pub fn letter_of(river: River, cell: u32) -> Letter
     ensures answer { λ r. ⌜ r ≡ letterAnswer river cell ⌝ }
 {
-    if river_wrong(river) {
+    if !river_right(river.cells, &river.amounts, &river.carries) {
         return Letter {
             number: 4,
             letter: 0,
@@ -175,90 +165,4 @@ pub fn letter_of(river: River, cell: u32) -> Letter
         number: 5,
         letter: 0,
     }
-}
-
-// Adds a number, of either sign, to an amount; the cell and the substance are counted from 1. Refuses with 4, 5 or 8,
-// in this order.
-pub fn load_river(river: River, cell: u32, substance: u32, number: i64) -> Changed
-    ensures answer { λ r. ⌜ r ≡ loadAnswer river cell substance number ⌝ }
-{
-    // The answer's river is tested and changed in place: no other copy of it is made.
-    let mut answer = Changed { number: 0, river };
-    let cells = answer.river.cells;
-    if !river_right(cells, &answer.river.amounts, &answer.river.carries) {
-        answer.number = 4;
-        return answer;
-    }
-    if !both(cell_exists(cells, cell), substance_exists(substance)) {
-        answer.number = 5;
-        return answer;
-    }
-    let c = (cell - 1) as usize;
-    let s = (substance - 1) as usize;
-    let amount = amount_at(&answer.river.amounts, c, s);
-    if !sum_fits(s, amount, number) {
-        answer.number = 8;
-        return answer;
-    }
-    set_amount(&mut answer.river.amounts, c, s, amount + number);
-    answer
-}
-
-// A flow of a part. Refuses with 4 (a wrong river) or 6 (a part above 10,000), in this order. There is no test for 8:
-// the amounts after are always in their bounds (proofs/FlowLaws.antt, flow-never-eight).
-pub fn flow_river(river: River, part: u32) -> Flowed
-    ensures answer { λ r. ⌜ r ≡ flowAnswer river part ⌝ }
-{
-    // The answer's river is tested and changed in place: no other copy of it is made.
-    let mut answer = Flowed {
-        number: 0,
-        river,
-        left: [0; AMOUNTS],
-    };
-    let cells = answer.river.cells;
-    if !river_right(cells, &answer.river.amounts, &answer.river.carries) {
-        answer.number = 4;
-        return answer;
-    }
-    if part > River::PART_MOST {
-        answer.number = 6;
-        return answer;
-    }
-    let left = left_all(&answer.river.amounts, part as u64);
-    move_amounts(cells as usize, &mut answer.river.amounts, &left);
-    answer.left = left;
-    answer
-}
-
-// Exchange of O2 between a cell, counted from 1, and the air. Answers the river with the cell's O2 changed, and the
-// gain. Refuses with 4, 5 or 6, in this order. That the O2 after is in its bounds is not tested: it always is, by the
-// law air-never-eight.
-pub fn air_river(river: River, cell: u32, constant: u32, seconds: u32, saturation: u32) -> Aired
-    ensures answer { λ r. ⌜ r ≡ airAnswer river cell constant seconds saturation ⌝ }
-{
-    // The answer's river is tested and changed in place: no other copy of it is made.
-    let mut answer = Aired {
-        number: 0,
-        river,
-        amount: 0,
-    };
-    let cells = answer.river.cells;
-    if !river_right(cells, &answer.river.amounts, &answer.river.carries) {
-        answer.number = 4;
-        return answer;
-    }
-    if !cell_exists(cells, cell) {
-        answer.number = 5;
-        return answer;
-    }
-    if figure_wrong(constant, seconds, saturation) {
-        answer.number = 6;
-        return answer;
-    }
-    let c = (cell - 1) as usize;
-    let amount = amount_at(&answer.river.amounts, c, O2);
-    let brought = gain_of(constant, seconds, saturation, amount);
-    set_amount(&mut answer.river.amounts, c, O2, amount + brought);
-    answer.amount = brought;
-    answer
 }

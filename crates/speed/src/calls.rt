@@ -15,11 +15,11 @@ use crate::rivers::load_of;
 use crate::rivers::rivers;
 use crate::sets::conditions_of;
 use crate::sets::sets;
-use river::air_river;
-use river::flow_river;
-use river::load_river;
 use rows::rows_of;
 use step::step_river;
+use transport::air_river;
+use transport::flow_river;
+use transport::load_river;
 
 // The checksum of the calls that are asked for; 0 for a letter of no kind.
 pub(crate) fn checksum_of(asked: Order) -> u64 {
@@ -164,7 +164,7 @@ fn reads(calls: u64) -> u64 {
     while turn < calls {
         let start = (turn % 8) as usize * BYTES;
         let end = start + BYTES;
-        let answer = record::read_record(&texts[start..end]);
+        let answer = record_reading::read_record(&texts[start..end]);
         sum = with(sum, answer.number as u64);
         sum = with_amounts(sum, &answer.river.amounts, turn);
         sum = with_carry(sum, &answer.river.carries, turn);

@@ -25,7 +25,8 @@ use Rattle.kinetics.specs.declared.Conditions.{Conditions}
 use Rattle.river.specs.declared.River.{River}
 use Rattle.river.specs.Rivers.{amountAt, carryAt, riverWrong}
 use Rattle.river.proofs.Rivers.{river-cells, amount-fits-at, amount-bound, carry-bound}
-use Rattle.step.specs.Steps.{batches, newAmount, steppedAmounts, steppedCarries, conditionsWrong, batchesWrong}
+use Rattle.kinetics.specs.Conditions.{conditionsWrong}
+use Rattle.step.specs.Steps.{batches, newAmount, steppedAmounts, steppedCarries, batchesWrong}
 use Rattle.step.specs.Stepping.{Whole, Amounts, Going, addedFrom, newFrom, appliedFrom, wholeFrom, restFrom}
 
 module _ (set : Set) (given : Conditions) (r : River) (right : riverWrong r ≡ false) where

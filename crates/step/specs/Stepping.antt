@@ -17,7 +17,8 @@ use Rattle.kinetics.specs.declared.Conditions.{Conditions}
 use Rattle.river.specs.declared.River.{River}
 use Rattle.river.specs.declared.Changed.{Changed}
 use Rattle.river.specs.Rivers.{mostCells, amountAt, carryAt, amountFits, riverWrong}
-use Rattle.step.specs.Steps.{batches, newCarry, conditionsWrong}
+use Rattle.kinetics.specs.Conditions.{conditionsWrong}
+use Rattle.step.specs.Steps.{batches, newCarry}
 
 -- The digit at place p of a number in binary is 1; the last digit has place 0.
 unfoldable pub digit : ℕ → ℕ → Bool

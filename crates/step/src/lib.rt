@@ -1,22 +1,21 @@
 // One step of all cells.
 ghost use mathlib.Core.Path.{_≡_};
 ghost use Rattle.step.specs.Steps.{stepAnswer};
-use crate::conditions::conditions_wrong;
 use crate::stepping::answered;
 use crate::stepping::step_cells;
 use kinetics::Conditions;
+use kinetics::conditions_wrong;
 use river::AMOUNTS;
 use river::CARRIES;
 use river::Changed;
 use river::River;
 use river::amounts_in_bounds;
-use river::river_wrong;
+use river::river_right;
 use rows::rows_of;
 use stoichiometry::Set;
 
 mod apply;
 mod cells;
-mod conditions;
 mod factors;
 mod figures;
 mod products;
@@ -33,7 +32,7 @@ pub fn step_river(set: Set, river: River, given: Conditions) -> Changed
     if rows.number != 0 {
         return answered(rows.number, river);
     }
-    if river_wrong(river) {
+    if !river_right(river.cells, &river.amounts, &river.carries) {
         return answered(4, river);
     }
     if conditions_wrong(given) {
@@ -54,14 +53,13 @@ pub fn step_river(set: Set, river: River, given: Conditions) -> Changed
     if !fit {
         return answered(7, river);
     }
+    if !amounts_in_bounds(river.cells, &amounts) {
+        return answered(8, river);
+    }
     let after = River {
         cells: river.cells,
         amounts,
         carries: rest,
     };
-    if amounts_in_bounds(after) {
-        answered(0, after)
-    } else {
-        answered(8, river)
-    }
+    answered(0, after)
 }

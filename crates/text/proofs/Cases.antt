@@ -1,14 +1,12 @@
--- Worked cases, each by computation: numbers in columns, texts that are read or refused, writes. No assumptions.
+-- Worked cases, each by computation: numbers in columns, writes, blocks. No assumptions.
 use Prim.Native.Nat.{ℕ}
-use mathlib.Core.List.{List, [], _∷_, _++_, map}
+use mathlib.Core.List.{[], _∷_, _++_, map}
 use mathlib.Core.Path.{_≡_, refl}
 use lib.IntN.{pos, negsuc}
 use lib.ListN.{replicate}
-use Rattle.text.specs.declared.Number.{Number}
 use Rattle.text.specs.Writes.{put, putWithin, copied}
 use Rattle.text.specs.Decimals.{glyph, nextMark, columns, plain, decimal}
 use Rattle.text.specs.Blocks.{blocks}
-use Rattle.text.specs.Reading.{isDigit, digit, other, next, runOn, accepted, none, signed, within, finish, parse}
 
 decimal-zero : decimal 20 (pos 0) ≡ replicate 19 32 ++ (48 ∷ [])
 unfolding glyph nextMark columns plain decimal
@@ -37,40 +35,6 @@ two-columns : map (plain 2 32) (0 ∷ 7 ∷ 42 ∷ 105 ∷ [])
     ≡ (32 ∷ 48 ∷ []) ∷ (32 ∷ 55 ∷ []) ∷ (52 ∷ 50 ∷ []) ∷ (48 ∷ 53 ∷ []) ∷ []
 unfolding glyph nextMark columns plain
 two-columns = refl
-
--- From −99 to 99.
-abbrev small : List ℕ → Number
-small = parse (negsuc 98) (pos 99)
-
--- "-0", "00", "+1".
-small-refused : map small ((45 ∷ 48 ∷ []) ∷ (48 ∷ 48 ∷ []) ∷ (43 ∷ 49 ∷ []) ∷ []) ≡ replicate 3 none
-unfolding isDigit digit other next runOn signed within finish parse
-small-refused = refl
-
--- "- 1", " 1 ", "--1".
-small-scattered : map small ((45 ∷ 32 ∷ 49 ∷ []) ∷ (32 ∷ 49 ∷ 32 ∷ []) ∷ (45 ∷ 45 ∷ 49 ∷ []) ∷ []) ≡ replicate 3 none
-unfolding isDigit digit other next runOn signed within finish parse
-small-scattered = refl
-
--- No digit: nothing, a blank, a minus.
-small-empty : map small ([] ∷ (32 ∷ []) ∷ (45 ∷ []) ∷ []) ≡ replicate 3 none
-unfolding isDigit digit other next runOn signed within finish parse
-small-empty = refl
-
--- " -7", " 0" and "99".
-small-read : map small ((32 ∷ 45 ∷ 55 ∷ []) ∷ (32 ∷ 48 ∷ []) ∷ (57 ∷ 57 ∷ []) ∷ [])
-    ≡ accepted (negsuc 6) ∷ accepted (pos 0) ∷ accepted (pos 99) ∷ []
-unfolding isDigit digit other next runOn signed within finish parse
-small-read = refl
-
--- "100" and "-100" are outside the limits, and a zero where 1 is the lowest.
-small-outside : map small ((49 ∷ 48 ∷ 48 ∷ []) ∷ (45 ∷ 49 ∷ 48 ∷ 48 ∷ []) ∷ []) ≡ replicate 2 none
-unfolding isDigit digit other next runOn signed within finish parse
-small-outside = refl
-
-zero-outside : parse (pos 1) (pos 9) (48 ∷ []) ≡ none
-unfolding isDigit digit other next runOn signed within finish parse
-zero-outside = refl
 
 -- The bytes beside a write stay, and a write past the end changes nothing.
 write-inside : putWithin (1 ∷ 2 ∷ 3 ∷ 4 ∷ []) 1 (7 ∷ 8 ∷ []) ≡ 1 ∷ 7 ∷ 8 ∷ 4 ∷ []

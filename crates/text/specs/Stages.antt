@@ -1,23 +1,9 @@
--- What the inner functions of the reader and of the writer hand to each other: how far a text is read, that columns are
--- still blank, digits by twos and fours, and bytes as one number. Laws: proofs/ReadingLoop.antt,
--- proofs/DecimalLaws.antt, proofs/FourLaws.antt. No assumptions.
-use Prim.Native.Nat.{ℕ, _+_, _*_, _/_, _%_, _≤_, _<_}
+-- What the inner functions of the writer hand to each other: that columns are still blank, digits by twos and fours, and
+-- bytes as one number. Laws: proofs/DecimalLaws.antt, proofs/FourLaws.antt. No assumptions.
+use Prim.Native.Nat.{ℕ, _+_, _*_, _/_, _%_, _<_}
 use mathlib.Core.List.{List, [], _∷_, _++_}
 use mathlib.Core.Path.{_≡_}
-use lib.ListN.{length, take, getD}
-use Rattle.text.specs.Reading.{cols, bad, other, runOn, start}
-
--- The text t begins with r blanks, and no more.
-pub record Blanks (t : List ℕ) (r : ℕ) : Type 0 where
-  pub within : r ≤ length t
-  pub seen : runOn start (take r t) ≡ cols 32 0
-  pub stop : r < length t → getD t r 0 ≡ 32 → ⊥
-
--- The blanks and the mark m of t end at i: what stands there is a digit, or no number begins so.
-pub record Ready (t : List ℕ) (i m : ℕ) : Type 0 where
-  pub within : i ≤ length t
-  pub seen : runOn start (take i t) ≡ cols m 0
-  pub stop : i < length t → other m 0 (getD t i 0) ≡ bad
+use lib.ListN.{getD}
 
 -- The w columns of l from `at` on hold blanks.
 abbrev pub Blank : List ℕ → ℕ → ℕ → Type 0

@@ -1,38 +1,15 @@
-// Numbers in columns, read strictly and written right-justified, and bytes copied; for any width and any count. Every
-// call answers for every input; a write that does not fit changes nothing. What each call means: specs/.
+// Numbers written right-justified in columns, and bytes copied; for any width and any count. Every call answers for
+// every input; a write that does not fit changes nothing. What each call means: specs/.
 ghost use mathlib.Core.Path.{_≡_};
 ghost use Rattle.text.specs.Writes.{putWithin, copied};
 ghost use Rattle.text.specs.Decimals.{plain, decimal};
-ghost use Rattle.text.specs.Reading.{parse};
-use crate::reading::blanks;
-use crate::reading::number_after;
 use crate::writing::glyph;
 use crate::writing::mark_of;
 use crate::writing::write_plain;
 use numeric::magnitude;
 
 mod digits;
-mod reading;
 mod writing;
-
-// A number that was read, and whether there was one; the value is 0 where there was none.
-pub struct Number {
-    pub ok: bool,
-    pub value: i64,
-}
-
-// The number that the columns are the text of, if there is one from `lowest` to `highest`.
-pub fn number_of(columns: &[u8], lowest: i64, highest: i64) -> Number
-    ensures answer { λ r. ⌜ r ≡ parse lowest highest (now (columns .entry)) ⌝ }
-{
-    let start = blanks(columns);
-    if start < columns.len() {
-        if columns[start] == b'-' {
-            return number_after(columns, start + 1, b'-', lowest, highest);
-        }
-    }
-    number_after(columns, start, b' ', lowest, highest)
-}
 
 // The value in `width` columns from `at` on, where they are all there.
 pub fn write_decimal(out: &mut [u8], at: usize, width: usize, value: i64)

@@ -28,8 +28,7 @@ use Rattle.stoichiometry.specs.Substances.{substances, Organic, ss, si, xh, xn1
 use Rattle.stoichiometry.specs.Parameters.{addsUp, fractionsWrong, figuresWrong}
 use Rattle.stoichiometry.specs.Sets.{rowsWrong, setNumber}
 use Rattle.river.specs.declared.River.{River}
-use Rattle.river.specs.Rivers.{highest, lowestAt, highestAt, amountFits, amountAt, riverWrong}
-use Rattle.river.specs.Load.{cellExists}
+use Rattle.river.specs.Rivers.{highest, lowestAt, highestAt, amountFits, amountAt, riverWrong, cellExists}
 use Rattle.river.specs.Cells.{cellTotal, totalsNumber, totalsAnswer}
 use Rattle.totals.specs.TotalsCode.{parts, partOf, weightsOf, heldBy, totalsAt, weightedTotal, refusedTotals, heaviest, mostHeld, Addable, AllAddable}
 use Rattle.river.proofs.Bounds.{fits-lowest, fits-highest}

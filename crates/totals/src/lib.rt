@@ -6,7 +6,7 @@ use crate::cell_totals::totals_at;
 use numeric::both;
 use river::River;
 use river::Totals;
-use river::river_wrong;
+use river::river_right;
 use rows::number_of;
 use stoichiometry::SUBSTANCES;
 use stoichiometry::Set;
@@ -21,7 +21,7 @@ pub fn totals_of(set: Set, river: River, cell: u32) -> Totals
     if number != 0 {
         return refused_totals(number);
     }
-    if river_wrong(river) {
+    if !river_right(river.cells, &river.amounts, &river.carries) {
         return refused_totals(4);
     }
     if both(1 <= cell, cell <= river.cells) {

@@ -12,12 +12,12 @@ use kinetics::Temperatures;
 use libc::STDOUT_FILENO;
 use river::River;
 use river::Totals;
-use river::air_river;
-use river::flow_river;
-use river::load_river;
 use step::step_river;
 use stoichiometry::Set;
 use totals::totals_of;
+use transport::air_river;
+use transport::flow_river;
+use transport::load_river;
 
 // The number of O2 in the order of substances.
 const O2: u32 = 7;

@@ -89,7 +89,7 @@ impl Day {
     fn load(self, substance: u32, number: i64) -> Day {
         let set = self.set;
         let before = self.river;
-        let answer = river::load_river(before, 1, substance, number);
+        let answer = transport::load_river(before, 1, substance, number);
         write_call(b"load ", answer.number);
         let river = answer.river;
         Day { set, river }
@@ -143,7 +143,7 @@ impl Day {
     fn flow(self) -> Day {
         let set = self.set;
         let before = self.river;
-        let answer = river::flow_river(before, 500);
+        let answer = transport::flow_river(before, 500);
         write_call(b"flow ", answer.number);
         let river = answer.river;
         Day { set, river }
@@ -152,7 +152,7 @@ impl Day {
     fn air(self, cell: u32) -> Day {
         let set = self.set;
         let before = self.river;
-        let answer = river::air_river(before, cell, 5000, 600, SATURATION);
+        let answer = transport::air_river(before, cell, 5000, 600, SATURATION);
         write_call(b"air ", answer.number);
         let river = answer.river;
         Day { set, river }

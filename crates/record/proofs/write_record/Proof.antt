@@ -1,10 +1,10 @@
 -- `write_record` meets its contract: each return is one case of the checks in their order; the output is the record
 -- of the cells, and the work area its copy (proofs/Written.antt). No assumptions.
 use mathlib.Core.Path.{_≡_, refl, sym, _∙_}
-use mathlib.Core.Bool.{false}
+use mathlib.Core.Bool.{false, not}
 use lib.ListN.{length}
 use Rattle.river.specs.Rivers.{riverWrong}
-use Rattle.river.proofs.Rivers.{river-cells}
+use Rattle.river.proofs.Rivers.{wrong-tested, river-cells}
 use Rattle.text.specs.Writes.{put}
 use Rattle.record.specs.Lines.{recordOf}
 use Rattle.record.proofs.Written.{river-refused, output-refused, work-refused, write-accepted, over-refused, over-written, record-copied}
@@ -12,20 +12,27 @@ use borrow.Author.Needs.{needs}
 use Rattle.record.proofs.write_record.Statement.{statement}
 use Rattle.record.proofs.write_record.Tie as tie
 
--- Check 4 does not hold.
-right : (c : tie.Else1) → riverWrong (c .before .before .before .before .args .t1) ≡ false
-right c = sym (c .before .river-wrong .ensures) ∙ c .if1 .left
+-- The start, from the test of the river.
+abbrev begun : tie.After-river-right → tie.Start
+begun c = let lent = c .before .before .before in lent .before .before .before
 
-river-wrong-requires : tie.Need-river-wrong-requires
-river-wrong-requires c κs = search needs
+wrong : (c : tie.After-river-right) → riverWrong (begun c .args .t1) ≡ not (c .river-right .result)
+wrong c = wrong-tested (begun c .args .t1) _ (c .river-right .ensures)
+
+-- Check 4 does not hold.
+right : (c : tie.Else1) → riverWrong (begun (c .before) .args .t1) ≡ false
+right c = wrong (c .before) ∙ c .if1 .left
+
+river-right-requires : tie.Need-river-right-requires
+river-right-requires c κs = search needs
 
 returns : tie.Need-returns
 returns c =
     let tested = c .before in
-    let args = tested .before .before .before .args in
+    let args = begun tested .args in
     let r = args .t1 in
-    let wrong = sym (tested .river-wrong .ensures) ∙ c .if1 .taken in
-    (sym (river-refused r (length (args .output .now)) (length (args .work .now)) wrong), (sym (over-refused 4 r (args .output .now) refl), sym (over-refused 4 r (args .work .now) refl)))
+    let holds = wrong tested ∙ c .if1 .taken in
+    (sym (river-refused r (length (args .output .now)) (length (args .work .now)) holds), (sym (over-refused 4 r (args .output .now) refl), sym (over-refused 4 r (args .work .now) refl)))
 
 cast-n : tie.Need-cast-n
 cast-n c = search needs
@@ -35,21 +42,21 @@ mul-bytes c = search needs
 
 returns-2 : tie.Need-returns-2
 returns-2 c =
-    let args = c .before .before .before .before .before .args in
+    let args = begun (c .before .before) .args in
     let r = args .t1 in
     (sym (output-refused r (length (args .output .now)) (length (args .work .now)) (right (c .before)) (c .if2 .taken)), (sym (over-refused 10 r (args .output .now) refl), sym (over-refused 10 r (args .work .now) refl)))
 
 returns-3 : tie.Need-returns-3
 returns-3 c =
     let left = c .before in
-    let args = left .before .before .before .before .before .args in
+    let args = begun (left .before .before) .args in
     let r = args .t1 in
     (sym (work-refused r (length (args .output .now)) (length (args .work .now)) (right (left .before)) (left .if2 .left) (c .if3 .taken)), (sym (over-refused 10 r (args .output .now) refl), sym (over-refused 10 r (args .work .now) refl)))
 
 write-cells-requires : tie.Need-write-cells-requires
 write-cells-requires c κs =
     let room = c .before .before .before .before .before in
-    (river-cells (room .before .before .before .before .before .args .t1) (right (room .before)) .1, room .if2 .left)
+    (river-cells (begun (room .before .before) .args .t1) (right (room .before)) .1, room .if2 .left)
 
 copy-bytes-requires : tie.Need-copy-bytes-requires
 copy-bytes-requires c κs = search needs
@@ -67,7 +74,7 @@ returns-4 c =
     let written = copied .before .before .before .before .before in
     let space = written .before .before .before .before .before in
     let room = space .before in
-    let args = room .before .before .before .before .before .args in
+    let args = begun (room .before .before) .args in
     let r = args .t1 in
     let filled : written .write-cells .last .0 ≡ put (args .output .now) 0 (recordOf r) = written .write-cells .ensures in
     let number = write-accepted r (length (args .output .now)) (length (args .work .now)) (right (room .before)) (room .if2 .left) (space .if3 .left) in
@@ -78,7 +85,7 @@ pub write-record-spec : {M : Type 1} → statement M
 write-record-spec =
     tie.close
     (tie.spec
-    river-wrong-requires
+    river-right-requires
     returns
     cast-n
     mul-bytes

@@ -1,7 +1,7 @@
 -- `letter_of` meets its contract: the checks decide the number; where both pass, O2 and NH4 of the cell, which are not
 -- negative, give the letter. No assumptions.
 use Prim.Native.Nat.{ℕ, _<_, _≤_, _-_}
-use mathlib.Core.Bool.{false}
+use mathlib.Core.Bool.{false, not}
 use mathlib.Core.Path.{_≡_, refl, sym, _∙_}
 use native.Mathlib.Omega.{arith}
 use borrow.Author.Needs.{needs}
@@ -13,31 +13,36 @@ use Rattle.numeric.specs.Check.{firstHolding}
 use Rattle.numeric.proofs.Bounds.{fits-abs}
 use Rattle.numeric.proofs.CheckLaws.{leb-within}
 use Rattle.numeric.proofs.Machine.{kept}
-use Rattle.river.specs.Rivers.{amountAt, riverWrong}
-use Rattle.river.specs.Load.{cellExists}
+use Rattle.river.specs.Rivers.{amountAt, riverWrong, cellExists}
 use Rattle.river.specs.Cells.{letterOf, letterNumber, letterAnswer}
 use Rattle.river.proofs.Bounds.{netAt}
-use Rattle.river.proofs.Rivers.{river-cells, level-amount}
+use Rattle.river.proofs.Rivers.{wrong-tested, river-cells, level-amount}
 use Rattle.river.proofs.letter_of.Statement.{statement}
 use Rattle.river.proofs.letter_of.Tie as tie
 
-river-wrong-requires : tie.Need-river-wrong-requires
-river-wrong-requires c κs = search needs
+abbrev begun : tie.After-river-right → tie.Start
+begun c = c .before .before .before .before
+
+wrong : (c : tie.After-river-right) → riverWrong (begun c .args .t1) ≡ not (c .river-right .result)
+wrong c = wrong-tested (begun c .args .t1) _ (c .river-right .ensures)
+
+river-right-requires : tie.Need-river-right-requires
+river-right-requires c κs = search needs
 
 -- Refused by 4.
 returns : tie.Need-returns
 unfolding letterAnswer letterNumber firstHolding
-returns c = rw (sym (c .before .river-wrong .ensures) ∙ c .if1 .taken)
+returns c = rw (wrong (c .before) ∙ c .if1 .taken)
 
 both-requires : tie.Need-both-requires
 both-requires c κs = search needs
 
 abbrev start : tie.Then2 → tie.Start
-start c = c .before .before .before .before
+start c = begun (c .before .before .before)
 
 -- Past check 4.
-right : (c : tie.Else1) → riverWrong (c .before .before .args .t1) ≡ false
-right c = sym (c .before .river-wrong .ensures) ∙ c .if1 .left
+right : (c : tie.Else1) → riverWrong (begun (c .before) .args .t1) ≡ false
+right c = wrong (c .before) ∙ c .if1 .left
 
 -- Past check 5 too: the cell is one of at most 8.
 exists : (c : tie.Then2) → (1 ≤ start c .args .cell) × (start c .args .cell ≤ start c .args .t1 .cells)
@@ -112,7 +117,7 @@ pub letter-of-spec : {M : Type 1} → statement M
 letter-of-spec =
     tie.close
     (tie.spec
-    river-wrong-requires
+    river-right-requires
     returns
     both-requires
     sub-start

@@ -1,6 +1,6 @@
 -- `totals_of` meets its contract: each return is a case of the number (TotalsLaws.antt). No assumptions.
 use Prim.Native.Nat.{_<_, _≤_, _-_}
-use mathlib.Core.Bool.{true, false}
+use mathlib.Core.Bool.{true, false, not}
 use mathlib.Core.Path.{_≡_, sym, ap, _∙_}
 use native.Mathlib.Omega.{arith}
 use borrow.Author.Tests.{leb-true}
@@ -9,17 +9,20 @@ use lib.Dec.{leb}
 use Rattle.numeric.proofs.CheckLaws.{and-left, and-right}
 use Rattle.stoichiometry.specs.Sets.{setNumber}
 use Rattle.stoichiometry.proofs.SetNumber.{accepted-passes}
-use Rattle.river.specs.Rivers.{riverWrong}
-use Rattle.river.specs.Load.{cellExists}
+use Rattle.river.specs.Rivers.{riverWrong, cellExists}
 use Rattle.totals.specs.TotalsCode.{refusedTotals}
-use Rattle.river.proofs.Rivers.{river-cells}
+use Rattle.river.proofs.Rivers.{wrong-tested, river-cells}
 use Rattle.totals.proofs.TotalsLaws.{cell-addable, totals-set-refused, totals-river-refused, totals-cell-refused, totals-accepted}
 use Rattle.totals.proofs.totals_of.Statement.{statement}
 use Rattle.totals.proofs.totals_of.Tie as tie
 
+-- Where the set was accepted, from the test of the river.
+abbrev known : tie.After-river-right → tie.Else1
+known c = c .before .before .before .before
+
 -- The start, seen from where the cell is known to exist.
 abbrev start : tie.Then3 → tie.Start
-start c = c .before .before .before .before .before .before
+start c = let test = c .before .before .before in known test .before .before
 
 -- The cell exists where the test is passed.
 exists : (c : tie.Then3) → cellExists (start c .args .t2) (start c .args .cell) ≡ true
@@ -39,8 +42,11 @@ inside c =
 accepted : (c : tie.Else1) → setNumber (c .before .before .args .set) ≡ 0
 accepted c = sym (c .before .number-of .ensures) ∙ c .if1 .left
 
-right : (c : tie.Else2) → riverWrong (c .before .before .before .before .args .t2) ≡ false
-right c = sym (c .before .river-wrong .ensures) ∙ c .if2 .left
+wrong : (c : tie.After-river-right) → riverWrong (known c .before .before .args .t2) ≡ not (c .river-right .result)
+wrong c = wrong-tested (known c .before .before .args .t2) _ (c .river-right .ensures)
+
+right : (c : tie.Else2) → riverWrong (known (c .before) .before .before .args .t2) ≡ false
+right c = wrong (c .before) ∙ c .if2 .left
 
 number-of-requires : tie.Need-number-of-requires
 number-of-requires c κs = search needs
@@ -57,8 +63,8 @@ returns c =
     c .refused-totals .ensures ∙ ap refusedTotals is
     ∙ sym (totals-set-refused (a .set) (a .t2) (a .cell) (λ e. c .before .if1 .taken (is ∙ e)))
 
-river-wrong-requires : tie.Need-river-wrong-requires
-river-wrong-requires c κs = search needs
+river-right-requires : tie.Need-river-right-requires
+river-right-requires c κs = search needs
 
 refused-totals-requires-2 : tie.Need-refused-totals-requires-2
 refused-totals-requires-2 c κs = search needs
@@ -67,10 +73,10 @@ refused-totals-requires-2 c κs = search needs
 returns-2 : tie.Need-returns-2
 returns-2 c =
     let at-river = c .before .before in
-    let a = at-river .before .before .before .args in
-    let wrong = sym (at-river .river-wrong .ensures) ∙ c .before .if2 .taken in
+    let a = known at-river .before .before .args in
+    let holds = wrong at-river ∙ c .before .if2 .taken in
     c .refused-totals2 .ensures
-    ∙ sym (totals-river-refused (a .set) (a .t2) (a .cell) (accepted (at-river .before)) wrong)
+    ∙ sym (totals-river-refused (a .set) (a .t2) (a .cell) (accepted (known at-river)) holds)
 
 both-requires : tie.Need-both-requires
 both-requires c κs = search needs
@@ -89,7 +95,7 @@ totals-at-requires c κs =
     let at-cell = c .before .before in
     let passed = at-cell .before .before in
     let a = start at-cell .args in
-    let set-right = accepted-passes (a .set) (accepted (passed .before .before)) .0 in
+    let set-right = accepted-passes (a .set) (accepted (known (passed .before))) .0 in
     let most = river-cells (a .t2) (right passed) .1 in
     let below : a .cell - 1 < a .t2 .cells = omega (arith, inside at-cell .0, inside at-cell .1) in
     (omega (arith, below, most), cell-addable (a .set) (a .t2) set-right (right passed) (a .cell - 1) below)
@@ -101,7 +107,7 @@ returns-3 c =
     let passed = at-cell .before .before in
     let a = start at-cell .args in
     c .totals-at .ensures
-    ∙ sym (totals-accepted (a .set) (a .t2) (a .cell) (accepted (passed .before .before)) (right passed) (exists at-cell))
+    ∙ sym (totals-accepted (a .set) (a .t2) (a .cell) (accepted (known (passed .before))) (right passed) (exists at-cell))
 
 refused-totals-requires-3 : tie.Need-refused-totals-requires-3
 refused-totals-requires-3 c κs = search needs
@@ -112,10 +118,10 @@ unfolding cellExists
 returns-4 c =
     let at-both = c .before .before in
     let passed = at-both .before in
-    let a = passed .before .before .before .before .args in
+    let a = known (passed .before) .before .before .args in
     let none = sym (at-both .both .ensures) ∙ c .before .if3 .left in
     c .refused-totals3 .ensures
-    ∙ sym (totals-cell-refused (a .set) (a .t2) (a .cell) (accepted (passed .before .before)) (right passed) none)
+    ∙ sym (totals-cell-refused (a .set) (a .t2) (a .cell) (accepted (known (passed .before))) (right passed) none)
 
 pub totals-of-spec : {M : Type 1} → statement M
 totals-of-spec =
@@ -124,7 +130,7 @@ totals-of-spec =
     number-of-requires
     refused-totals-requires
     returns
-    river-wrong-requires
+    river-right-requires
     refused-totals-requires-2
     returns-2
     both-requires

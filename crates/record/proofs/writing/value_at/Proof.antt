@@ -4,7 +4,7 @@ use mathlib.Core.Path.{sym, _∙_}
 use lib.ListN.{getD}
 use lib.IntN.{pos}
 use Rattle.numeric.proofs.Machine.{kept-is}
-use Rattle.record.proofs.RecordLaws.{value-amount, value-carry}
+use Rattle.record.proofs.LineLaws.{value-amount, value-carry}
 use borrow.Author.Needs.{needs}
 use Rattle.record.proofs.writing.value_at.Statement.{statement}
 use Rattle.record.proofs.writing.value_at.Tie as tie

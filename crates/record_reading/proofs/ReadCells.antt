@@ -1,0 +1,105 @@
+-- What the reading loops find: the value on a line of a text, its range, a line more, a cell more. No assumptions.
+use mathlib.Core.Path.{_≡_, ap}
+use mathlib.Core.Bool.{true, cond}
+use mathlib.Core.List.{List}
+use Prim.Native.Nat.{ℕ, _+_, _-_, _*_, _/_, _%_, _≤_, _<_}
+use native.Mathlib.Omega.{arith}
+use borrow.Author.Tests.{lt-ltb, le-ltb}
+use lib.Dec.{ltb, lit<}
+use lib.IntN.{ℤ, pos, natAbs}
+use lib.ListN.{set}
+use lib.Signed.{_≤ℤ_}
+use Rattle.numeric.specs.Table.{run}
+use Rattle.numeric.proofs.Bounds.{abs-from, abs-of-nonneg}
+use Rattle.numeric.proofs.CheckLaws.{row-beyond}
+use Rattle.numeric.proofs.Comparison.{leZ-true}
+use Rattle.numeric.proofs.Filling.{run-more}
+use Rattle.stoichiometry.specs.Substances.{substances}
+use Rattle.stoichiometry.specs.Rows.{processes}
+use Rattle.text.specs.Blocks.{part}
+use Rattle.record.specs.Lines.{lines, lineBytes, cellBytes}
+use Rattle.record_reading.specs.Reading.{lineNumber, lowestOn, highestOn, valueAt}
+use Rattle.record_reading.proofs.LineReading.{number-line}
+
+module _ (t : List ℕ) (c : ℕ) where
+  -- The value on a line, where the loop finds it.
+  pub value-on : (k : ℕ)
+      → lineNumber (part (c * cellBytes + k * lineBytes) lineBytes t) (c + 1) (k + 1) (lowestOn k) (highestOn k)
+      ≡ valueAt t c k
+  unfolding valueAt
+  value-on k =
+      let place : c * cellBytes + k * lineBytes ≡ (c * lines + k) * lineBytes = omega arith in
+      ap (λ (at : ℕ). lineNumber (part at lineBytes t) (c + 1) (k + 1) (lowestOn k) (highestOn k)) place
+
+  -- What is read is within its limits.
+  value-within : (k : ℕ) → valueAt t c k .ok ≡ true
+      → (lowestOn k ≤ℤ valueAt t c k .value) × (valueAt t c k .value ≤ℤ highestOn k)
+  unfolding valueAt
+  value-within k e =
+      let l = part ((c * lines + k) * lineBytes) lineBytes t in
+      let known = number-line l (c + 1) (k + 1) (lowestOn k) (highestOn k) e in
+      (leZ-true (lowestOn k) (valueAt t c k .value) (known .1), leZ-true (valueAt t c k .value) (highestOn k) (known .2))
+
+  pub amount-small : (k : ℕ) → k < substances → valueAt t c k .ok ≡ true → natAbs (valueAt t c k .value) ≤ 1000000000000000000
+  unfolding lowestOn highestOn
+  amount-small k h e =
+      let known = rw (lt-ltb k substances h) at (value-within k e) in
+      abs-from (valueAt t c k .value) 1000000000000000000 (known .0) (known .1)
+
+  pub carry-range : (k : ℕ) → substances ≤ k → valueAt t c k .ok ≡ true
+      → (pos 0 ≤ℤ valueAt t c k .value) × (natAbs (valueAt t c k .value) ≤ 999999)
+  unfolding lowestOn highestOn
+  carry-range k h e =
+      let known = rw (le-ltb k substances h) at (value-within k e) in
+      (known .0, abs-of-nonneg (valueAt t c k .value) 999999 (known .0) (known .1))
+
+-- A line more of a cell, whose first lines are stored as amounts and those past them as carries.
+module _ {A : Type 0} (l m : List A) (b k : ℕ) (f : ℕ → A) where
+  pub amount-stored : k < substances → m ≡ run l b (k - (k - substances)) f → (v : A) → v ≡ f k
+      → set m (b + k) v ≡ run l b (k + 1 - (k + 1 - substances)) f
+  amount-stored h e v q =
+      let before : k - (k - substances) ≡ k = omega arith in
+      let after : k + 1 - (k + 1 - substances) ≡ k + 1 = omega arith in
+      rw after (run-more l b k f m v (rw before at e) q)
+
+  pub amounts-kept : substances ≤ k → m ≡ run l b (k - (k - substances)) f → m ≡ run l b (k + 1 - (k + 1 - substances)) f
+  amounts-kept h e =
+      let same : k - (k - substances) ≡ k + 1 - (k + 1 - substances) = omega arith in
+      rw same at e
+
+  pub carry-stored : substances ≤ k → m ≡ run l b (k - substances) f → (v : A) → v ≡ f (k - substances)
+      → set m (b + (k - substances)) v ≡ run l b (k + 1 - substances) f
+  carry-stored h e v q =
+      let after : k + 1 - substances ≡ k - substances + 1 = omega arith in
+      rw after (run-more l b (k - substances) f m v e q)
+
+  pub carries-kept : k < substances → m ≡ run l b (k - substances) f → m ≡ run l b (k + 1 - substances) f
+  carries-kept h e =
+      let same : k - substances ≡ k + 1 - substances = omega arith in
+      rw same at e
+
+-- Amount i and carry i of a text of n cells, and what they are in a cell and beyond the last.
+module _ (n : ℕ) (t : List ℕ) where
+  abbrev pub amountIn : ℕ → ℤ
+  amountIn i = cond (ltb (i / substances) n) (valueAt t (i / substances) (i % substances) .value) (pos 0)
+
+  abbrev pub carryIn : ℕ → ℕ
+  carryIn i = cond (ltb (i / processes) n) (natAbs (valueAt t (i / processes) (substances + i % processes) .value)) 0
+
+  pub amount-in : (c k : ℕ) → c < n → k < substances → valueAt t c k .value ≡ amountIn (c * substances + k)
+  amount-in c k h l =
+      let cell : (c * substances + k) / substances ≡ c = omega arith in
+      let place : (c * substances + k) % substances ≡ k = omega arith in
+      rw (cell, place, lt-ltb c n h)
+
+  pub amount-beyond : (i : ℕ) → n * substances ≤ i → amountIn i ≡ pos 0
+  amount-beyond i h = rw (row-beyond substances n i (lit< tt) h)
+
+  pub carry-in : (c p : ℕ) → c < n → p < processes → natAbs (valueAt t c (substances + p) .value) ≡ carryIn (c * processes + p)
+  carry-in c p h l =
+      let cell : (c * processes + p) / processes ≡ c = omega arith in
+      let place : (c * processes + p) % processes ≡ p = omega arith in
+      rw (cell, place, lt-ltb c n h)
+
+  pub carry-beyond : (i : ℕ) → n * processes ≤ i → carryIn i ≡ 0
+  carry-beyond i h = rw (row-beyond processes n i (lit< tt) h)

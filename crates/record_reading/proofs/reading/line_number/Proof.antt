@@ -1,0 +1,93 @@
+-- `reading::line_number` meets its contract: the line feed, what stands before the value, and the value
+-- (proofs/LineLaws.antt). No assumptions.
+use mathlib.Core.Path.{_≡_, sym, ap, _∙_}
+use Prim.Native.Nat.{ℕ, _+_, _-_}
+use native.Mathlib.Omega.{arith}
+use lib.ListN.{take, drop}
+use mir.Facts.{toZ-ofZ}
+use Rattle.text_reading.specs.Reading.{parse}
+use Rattle.record_reading.proofs.LineReading.{end-refused, front-refused, line-read}
+use borrow.Author.Needs.{needs}
+use Rattle.record_reading.proofs.reading.line_number.Statement.{statement}
+use Rattle.record_reading.proofs.reading.line_number.Tie as tie
+
+add-if1 : tie.Need-add-if1
+add-if1 c = search needs
+
+shared-slice-read-if1 : tie.Need-shared-slice-read-if1
+shared-slice-read-if1 c = search needs
+
+no-number-requires : tie.Need-no-number-requires
+no-number-requires c κs = search needs
+
+returns : tie.Need-returns
+returns c =
+    let start = c .before .before .before .before in
+    let args = start .args in
+    c .no-number .ensures ∙ sym (end-refused (args .text .now) (args .at) (start .pre) (args .cell) (args .number) (args .lowest) (args .highest) (c .before .if1 .taken))
+
+front-right-requires : tie.Need-front-right-requires
+front-right-requires c κs = search needs
+
+add-start : tie.Need-add-start
+add-start c = search needs
+
+add-end : tie.Need-add-end
+add-end c = search needs
+
+sub-number-of : tie.Need-sub-number-of
+sub-number-of c = search needs
+
+part-number-of-start : tie.Need-part-number-of-start
+part-number-of-start c = search needs
+
+part-number-of-end : tie.Need-part-number-of-end
+part-number-of-end c = search needs
+
+number-of-requires : tie.Need-number-of-requires
+number-of-requires c κs = search needs
+
+returns-2 : tie.Need-returns-2
+returns-2 c =
+    let then = c .before .before in
+    let tested = then .before in
+    let feed = tested .before in
+    let start = feed .before .before .before in
+    let args = start .args in
+    let front = sym (tested .front-right .ensures) ∙ then .if2 .taken in
+    let width : args .at + 26 - (args .at + 6) ≡ 20 = omega arith in
+    let columns = ap (λ (n : ℕ). take n (drop (args .at + 6) (args .text .now))) width in
+    let read = line-read (args .text .now) (args .at) (start .pre) (args .cell) (args .number) (args .lowest) (args .highest) front (feed .if1 .left) in
+    c .number-of .ensures
+    ∙ (λ i. parse (toZ-ofZ (start .fits .lowest) i) (toZ-ofZ (start .fits .highest) i) (columns i))
+    ∙ sym read
+
+no-number-requires-2 : tie.Need-no-number-requires-2
+no-number-requires-2 c κs = search needs
+
+returns-3 : tie.Need-returns-3
+returns-3 c =
+    let tested = c .before .before in
+    let start = tested .before .before .before .before in
+    let args = start .args in
+    let wrong = sym (tested .front-right .ensures) ∙ c .before .if2 .left in
+    c .no-number2 .ensures ∙ sym (front-refused (args .text .now) (args .at) (start .pre) (args .cell) (args .number) (args .lowest) (args .highest) wrong)
+
+pub line-number-spec : {M : Type 1} → statement M
+line-number-spec =
+    tie.close
+    (tie.spec
+    add-if1
+    shared-slice-read-if1
+    no-number-requires
+    returns
+    front-right-requires
+    add-start
+    add-end
+    sub-number-of
+    part-number-of-start
+    part-number-of-end
+    number-of-requires
+    returns-2
+    no-number-requires-2
+    returns-3)

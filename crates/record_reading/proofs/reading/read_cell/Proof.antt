@@ -1,0 +1,221 @@
+-- `reading::read_cell` meets its contract. The loop's invariant: the first k lines have their values, which are
+-- stored: those of the first 18 lines as amounts, those past them as carries. No assumptions.
+use Prim.Native.Nat.{ℕ, _+_, _-_, _*_, _≤_, _<_}
+use mathlib.Core.Path.{_≡_, sym, ap, ap₂, _∙_}
+use mathlib.Core.Bool.{true, false≢true}
+use mathlib.Core.Logic.{⊎-elim}
+use native.Mathlib.Omega.{arith}
+use borrow.Author.Needs.{needs}
+use borrow.Author.Tests.{not-true, not-false}
+use lib.IntN.{natAbs}
+use lib.Signed.{yes-nonNeg}
+use mir.Facts.{fits-below, toZ-ofZ}
+use Rattle.numeric.specs.Check.{every}
+use Rattle.numeric.specs.Table.{run}
+use Rattle.numeric.proofs.Bounds.{fits-abs}
+use Rattle.numeric.proofs.CheckLaws.{every-none, every-more, every-fails}
+use Rattle.numeric.proofs.Filling.{run-none}
+use Rattle.numeric.proofs.Machine.{kept, result-is}
+use Rattle.text_reading.specs.declared.Number.{Number}
+use Rattle.text.specs.Blocks.{part}
+use Rattle.record_reading.specs.Reading.{lineNumber, valueAt}
+use Rattle.record_reading.proofs.ReadCells.{value-on, amount-small, carry-range, amount-stored, amounts-kept, carry-stored, carries-kept}
+use Rattle.record_reading.proofs.reading.read_cell.Statement.{statement}
+use Rattle.record_reading.proofs.reading.read_cell.Tie as tie
+
+abbrev Inv-loop : tie.InvT-loop
+Inv-loop text c amounts₀ carries₀ start amount carry cell k₀ amounts carries k =
+    (k ≤ 35)
+    × (every k (λ q. valueAt text c q .ok) ≡ true)
+    × (amounts ≡ run amounts₀ amount (k - (k - 18)) (λ q. valueAt text c q .value))
+    × (carries ≡ run carries₀ carry (k - 18) (λ p. natAbs (valueAt text c (18 + p) .value)))
+
+abbrev μ-loop : tie.MeasureT-loop
+μ-loop text c amounts₀ carries₀ start amount carry cell k₀ amounts carries k = 35 - k
+
+-- The turn in which a line is read, the value on its line, and that the call reads it.
+abbrev turnOf : tie.After-line-number Inv-loop μ-loop → tie.At-loop Inv-loop μ-loop
+turnOf c = let at-lowest = c .before .before in at-lowest .before .before
+
+abbrev valueOn : tie.At-loop Inv-loop μ-loop → Number
+valueOn c = let args = c .before .before .args in valueAt (args .text .now) (args .c) (c .loop .k)
+
+value : (c : tie.After-line-number Inv-loop μ-loop) → c .line-number .result ≡ valueOn (turnOf c)
+value c =
+    let at-lowest = c .before .before in
+    let at-loop = turnOf c in
+    let args = at-loop .before .before .args in
+    let k = at-loop .loop .k in
+    c .line-number .ensures
+    ∙ ap₂ (lineNumber (part (args .c * 945 + k * 27) 27 (args .text .now)) (args .c + 1) (k + 1))
+    (result-is _ (at-lowest .lowest-on .ensures) (at-lowest .lowest-on .ok))
+    (result-is _ (c .before .highest-on .ensures) (c .before .highest-on .ok))
+    ∙ value-on (args .text .now) (args .c) k
+
+mul-start : tie.Need-mul-start Inv-loop μ-loop
+mul-start c = omega arith
+
+mul-amount : tie.Need-mul-amount Inv-loop μ-loop
+mul-amount c = omega arith
+
+mul-carry : tie.Need-mul-carry Inv-loop μ-loop
+mul-carry c = omega arith
+
+add-cell : tie.Need-add-cell Inv-loop μ-loop
+add-cell c = omega arith
+
+cast-cell : tie.Need-cast-cell Inv-loop μ-loop
+cast-cell c = fits-below {n = 100} tt (omega arith)
+
+loop-holds : tie.Need-loop-holds Inv-loop μ-loop
+loop-holds c = (omega arith, every-none _, run-none _ _ _, run-none _ _ _)
+
+mul-line-number : tie.Need-mul-line-number Inv-loop μ-loop
+mul-line-number c = omega arith
+
+add-line-number : tie.Need-add-line-number Inv-loop μ-loop
+add-line-number c = omega arith
+
+add-line-number-2 : tie.Need-add-line-number-2 Inv-loop μ-loop
+add-line-number-2 c = omega arith
+
+cast-line-number : tie.Need-cast-line-number Inv-loop μ-loop
+cast-line-number c = fits-below {n = 100} tt (omega arith)
+
+lowest-on-requires : tie.Need-lowest-on-requires Inv-loop μ-loop
+lowest-on-requires c κs = search needs
+
+highest-on-requires : tie.Need-highest-on-requires Inv-loop μ-loop
+highest-on-requires c κs = search needs
+
+line-number-requires : tie.Need-line-number-requires Inv-loop μ-loop
+line-number-requires c κs = omega arith
+
+returns : tie.Need-returns Inv-loop μ-loop
+returns c =
+    let tested = c .before .before in
+    let in-loop = tested .before .before .before in
+    let at-loop = in-loop .before in
+    let args = at-loop .before .before .args in
+    let wrong = ap (λ (n : Number). n .ok) (sym (value tested)) ∙ not-true _ (c .if1 .taken) in (
+      sym (every-fails 35 (at-loop .loop .k) (λ q. valueAt (args .text .now) (args .c) q .ok) (in-loop .loop-test .taken) wrong),
+      (λ h. absurd (false≢true h), λ h. absurd (false≢true h)),
+    )
+
+add-value : tie.Need-add-value Inv-loop μ-loop
+add-value c = omega arith
+
+mul-value : tie.Need-mul-value Inv-loop μ-loop
+mul-value c = omega arith
+
+element-set-from-value : tie.Need-element-set-from-value Inv-loop μ-loop
+element-set-from-value c = omega arith
+
+-- The line has its value, which fits.
+right : (c : tie.Else1 Inv-loop μ-loop) → valueOn (turnOf (c .before .before)) .ok ≡ true
+right c = ap (λ (n : Number). n .ok) (sym (value (c .before .before))) ∙ not-false _ (c .if1 .left)
+
+amount-read : (c : tie.Else1 Inv-loop μ-loop) → turnOf (c .before .before) .loop .k < 18
+    → kept (c .before .before .line-number .result .value) ≡ valueOn (turnOf (c .before .before)) .value
+amount-read c h =
+    let at-loop = turnOf (c .before .before) in
+    let args = at-loop .before .before .args in
+    let small = amount-small (args .text .now) (args .c) (at-loop .loop .k) h (right c) in
+    ap (λ (n : Number). kept (n .value)) (value (c .before .before)) ∙ toZ-ofZ (fits-abs _ (omega (arith, small)))
+
+carry-read : (c : tie.Else1 Inv-loop μ-loop) → 18 ≤ turnOf (c .before .before) .loop .k
+    → kept (c .before .before .line-number .result .value) ≡ valueOn (turnOf (c .before .before)) .value
+carry-read c h =
+    let at-loop = turnOf (c .before .before) in
+    let args = at-loop .before .before .args in
+    let range = carry-range (args .text .now) (args .c) (at-loop .loop .k) h (right c) in
+    ap (λ (n : Number). kept (n .value)) (value (c .before .before)) ∙ toZ-ofZ (fits-abs _ (omega (arith, range .1)))
+
+cast-carries : tie.Need-cast-carries Inv-loop μ-loop
+cast-carries c =
+    let left = c .before .before in
+    let at-loop = turnOf (left .before .before) in
+    let args = at-loop .before .before .args in
+    let range = carry-range (args .text .now) (args .c) (at-loop .loop .k) (c .if2 .left) (right left) in
+    rw (carry-read left (c .if2 .left)) (yes-nonNeg (range .0), fits-below {n = 1000000} tt (omega (arith, range .1)))
+
+add-carries : tie.Need-add-carries Inv-loop μ-loop
+add-carries c = omega arith
+
+mul-carries : tie.Need-mul-carries Inv-loop μ-loop
+mul-carries c = omega arith
+
+element-write-carries : tie.Need-element-write-carries Inv-loop μ-loop
+element-write-carries c = omega arith
+
+add-k : tie.Need-add-k Inv-loop μ-loop
+add-k c = omega arith
+
+loop-less : tie.Need-loop-less Inv-loop μ-loop
+loop-less c = omega arith
+
+loop-again : tie.Need-loop-again Inv-loop μ-loop
+loop-again c =
+    let left = c .before .before in
+    let at-loop = turnOf (left .before .before) in
+    let args = at-loop .before .before .args in
+    let k = at-loop .loop .k in
+    let inv = at-loop .loop .inv in
+    ⊎-elim
+    (λ w.
+    let h = w .0 .taken in (
+      omega arith,
+      every-more k _ (inv .1) (right left),
+      w .1 ∙ amount-stored _ _ _ k _ h (inv .2) _ (amount-read left h),
+      w .2 ∙ carries-kept _ _ _ k _ h (inv .3),
+    ))
+    (λ w.
+    let h = w .0 .left in
+    let line : 18 + (k - 18) ≡ k = omega arith in
+    let stored = ap natAbs (carry-read left h) ∙ ap (λ (q : ℕ). natAbs (valueAt (args .text .now) (args .c) q .value)) (sym line) in (
+      omega arith,
+      every-more k _ (inv .1) (right left),
+      w .1 ∙ amounts-kept _ _ _ k _ h (inv .2),
+      w .2 ∙ carry-stored _ _ _ k _ h (inv .3) _ stored,
+    ))
+    (c .if2 .came)
+
+returns-2 : tie.Need-returns-2 Inv-loop μ-loop
+returns-2 c =
+    let at-loop = c .before in
+    let finished : at-loop .loop .k ≡ 35 = omega arith in (
+      sym (rw finished at (at-loop .loop .inv .1)),
+      (λ h. rw finished at (at-loop .loop .inv .2), λ h. rw finished at (at-loop .loop .inv .3)),
+    )
+
+pub read-cell-spec : {M : Type 1} → statement M
+read-cell-spec =
+    tie.close
+    (tie.spec
+    Inv-loop
+    μ-loop
+    mul-start
+    mul-amount
+    mul-carry
+    add-cell
+    cast-cell
+    loop-holds
+    mul-line-number
+    add-line-number
+    add-line-number-2
+    cast-line-number
+    lowest-on-requires
+    highest-on-requires
+    line-number-requires
+    returns
+    add-value
+    mul-value
+    element-set-from-value
+    cast-carries
+    add-carries
+    mul-carries
+    element-write-carries
+    add-k
+    loop-less
+    loop-again
+    returns-2)

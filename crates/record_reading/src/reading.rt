@@ -1,0 +1,190 @@
+// Lines read strictly from a text, cell by cell.
+ghost use mathlib.Core.Path.{_≡_};
+ghost use mathlib.Core.Bool.{true, _&&_};
+ghost use Prim.Native.Nat.{_+_, _*_, _/_, _%_, _≤_, _<_};
+ghost use lib.Dec.{eqb};
+ghost use lib.ListN.{length, replicate};
+ghost use lib.IntN.{pos, natAbs};
+ghost use Rattle.numeric.specs.Check.{every};
+ghost use Rattle.numeric.specs.Table.{run};
+ghost use Rattle.river.specs.Rivers.{cellsFit, zeroRiver};
+ghost use Rattle.text.specs.Blocks.{part};
+ghost use Rattle.text.specs.Decimals.{glyph};
+ghost use Rattle.text_reading.specs.Reading.{none};
+ghost use Rattle.record.specs.Lines.{front};
+ghost use Rattle.record_reading.specs.Reading.{sameBytes, lineNumber, lowestOn, highestOn, valueAt, linesRight, amountsIn, carriesIn};
+use numeric::both;
+use record::CELL_BYTES;
+use record::LINE_BYTES;
+use record::LINES;
+use river::AMOUNTS;
+use river::CARRIES;
+use river::CELLS;
+use river::Changed;
+use river::River;
+use stoichiometry::PROCESSES;
+use stoichiometry::SUBSTANCES;
+use text_reading::Number;
+use text_reading::number_of;
+
+// The tens of a number in two columns, a blank for none; and its ones.
+fn tens(n: u32) -> u8
+    ensures { λ r. ⌜ r ≡ glyph (n / 10) 32 ⌝ }
+{
+    if n < 10 {
+        b' '
+    } else {
+        b'0' + (n / 10 % 10) as u8
+    }
+}
+
+fn ones(n: u32) -> u8
+    ensures { λ r. ⌜ r ≡ 48 + n % 10 ⌝ }
+{
+    b'0' + (n % 10) as u8
+}
+
+// What stands before the value of the line from `at` on is its cell and its number.
+fn front_right(text: &[u8], at: usize, cell: u32, number: u32) -> bool
+    requires { ⌜ at + 6 ≤ length (now text) ⌝ }
+    ensures { λ r. ⌜ r ≡ sameBytes (part at 6 (now (text .entry))) (front cell number) ⌝ }
+{
+    let number_right = both(
+        text[at + 3] == tens(number),
+        both(text[at + 4] == ones(number), text[at + 5] == b' '),
+    );
+    both(
+        text[at] == tens(cell),
+        both(
+            text[at + 1] == ones(cell),
+            both(text[at + 2] == b' ', number_right),
+        ),
+    )
+}
+
+fn no_number() -> Number
+    ensures { λ r. ⌜ r ≡ none ⌝ }
+{
+    Number {
+        ok: false,
+        value: 0,
+    }
+}
+
+// The number of the line from `at` on, if there is one from `lowest` to `highest`.
+fn line_number(text: &[u8], at: usize, cell: u32, number: u32, lowest: i64, highest: i64) -> Number
+    requires { ⌜ at + 27 ≤ length (now text) ⌝ }
+    ensures { λ r. ⌜ r ≡ lineNumber (part at 27 (now (text .entry))) cell number lowest highest ⌝ }
+{
+    if text[at + 26] != b'\n' {
+        return no_number();
+    }
+    if front_right(text, at, cell, number) {
+        let start = at + 6;
+        let end = at + 26;
+        return number_of(&text[start..end], lowest, highest);
+    }
+    no_number()
+}
+
+// The limits of the value on line k, counted from 0: any amount, or a carry.
+fn lowest_on(k: usize) -> i64
+    ensures { λ r. ⌜ r ≡ lowestOn k ⌝ }
+{
+    if k < SUBSTANCES { -River::NET_MOST } else { 0 }
+}
+
+fn highest_on(k: usize) -> i64
+    ensures { λ r. ⌜ r ≡ highestOn k ⌝ }
+{
+    if k < SUBSTANCES {
+        River::NET_MOST
+    } else {
+        River::CARRY_MOST as i64
+    }
+}
+
+// The amounts and then the carries of cell c, counted from 0, if each of its lines has its value. One loop over all
+// lines, so that a line is read from one place only and the compiler sets the reading of it into the loop.
+fn read_cell(
+    text: &[u8],
+    c: usize,
+    amounts: &mut [i64; AMOUNTS],
+    carries: &mut [u32; CARRIES],
+) -> bool
+    requires { ⌜ (c < 8) × (c * 945 + 945 ≤ length (now text)) ⌝ }
+    ensures { λ r. ⌜ r ≡ every 35 (λ k. valueAt (now (text .entry)) c k .ok) ⌝ }
+    ensures { λ r. ⌜ (r ≡ true → now (amounts .exit) ≡ run (now (amounts .entry)) (c * 18) 18 (λ k. valueAt (now (text .entry)) c k .value)) ⌝ }
+    ensures { λ r. ⌜ (r ≡ true → now (carries .exit) ≡ run (now (carries .entry)) (c * 17) 17 (λ p. natAbs (valueAt (now (text .entry)) c (18 + p) .value))) ⌝ }
+{
+    let start = c * CELL_BYTES;
+    let amount = c * SUBSTANCES;
+    let carry = c * PROCESSES;
+    let cell = (c + 1) as u32;
+    let mut k = 0;
+    while k < LINES {
+        let number = line_number(
+            text,
+            start + k * LINE_BYTES,
+            cell,
+            (k + 1) as u32,
+            lowest_on(k),
+            highest_on(k),
+        );
+        if !number.ok {
+            return false;
+        }
+        let value = number.value;
+        if k < SUBSTANCES {
+            amounts[amount + k] = value;
+        } else {
+            carries[carry + (k - SUBSTANCES)] = value as u32;
+        }
+        k += 1;
+    }
+    true
+}
+
+// The amounts and carries of the first n cells, if each line has its value.
+pub(crate) fn read_cells(
+    text: &[u8],
+    n: usize,
+    amounts: &mut [i64; AMOUNTS],
+    carries: &mut [u32; CARRIES],
+) -> bool
+    requires { ⌜ (n ≤ 8) × (n * 945 ≤ length (now text)) ⌝ }
+    requires { ⌜ (now amounts ≡ replicate 144 (pos 0)) × (now carries ≡ replicate 136 0) ⌝ }
+    ensures { λ r. ⌜ r ≡ linesRight n (now (text .entry)) ⌝ }
+    ensures { λ r. ⌜ (r ≡ true → now (amounts .exit) ≡ amountsIn n (now (text .entry))) ⌝ }
+    ensures { λ r. ⌜ (r ≡ true → now (carries .exit) ≡ carriesIn n (now (text .entry))) ⌝ }
+{
+    let mut c = 0;
+    while c < n {
+        if !read_cell(text, c, amounts, carries) {
+            return false;
+        }
+        c += 1;
+    }
+    true
+}
+
+// A text of this many bytes is of 1 to 8 cells.
+pub(crate) fn size_fits(bytes: usize) -> bool
+    ensures { λ r. ⌜ r ≡ (cellsFit (bytes / 945) && eqb (bytes / 945 * 945) bytes) ⌝ }
+{
+    let n = bytes / CELL_BYTES;
+    both(both(1 <= n, n <= CELLS), n * CELL_BYTES == bytes)
+}
+
+pub(crate) fn no_record() -> Changed
+    ensures { λ r. ⌜ r ≡ record { number = 11; river = zeroRiver 0 } ⌝ }
+{
+    Changed {
+        number: 11,
+        river: River {
+            cells: 0,
+            amounts: [0; AMOUNTS],
+            carries: [0; CARRIES],
+        },
+    }
+}

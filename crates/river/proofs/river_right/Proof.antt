@@ -1,0 +1,53 @@
+-- `river_right` meets its contract: the number of cells, then the amounts, then the carries. No assumptions.
+use Prim.Native.Nat.{_≤_}
+use mathlib.Core.Bool.{true}
+use mathlib.Core.Path.{_≡_, sym, _∙_}
+use borrow.Author.Needs.{needs}
+use borrow.Author.Tests.{not-true, not-false}
+use Rattle.numeric.proofs.CheckLaws.{leb-within}
+use Rattle.river.specs.Rivers.{mostCells, cellsFit}
+use Rattle.river.proofs.river_right.Statement.{statement}
+use Rattle.river.proofs.river_right.Tie as tie
+
+-- The number of cells fits.
+cells-right : (c : tie.Else1) → cellsFit (c .before .before .args .cells) ≡ true
+cells-right c = sym (c .before .cells-fit .ensures) ∙ not-false _ (c .if1 .left)
+
+cells-known : (c : tie.Else1) → c .before .before .args .cells ≤ mostCells
+unfolding cellsFit
+cells-known c = leb-within 1 (c .before .before .args .cells) mostCells (cells-right c) .1
+
+cells-fit-requires : tie.Need-cells-fit-requires
+cells-fit-requires c κs = search needs
+
+returns : tie.Need-returns
+returns c = rw (sym (c .before .cells-fit .ensures) ∙ not-true _ (c .if1 .taken))
+
+amounts-fit-requires : tie.Need-amounts-fit-requires
+amounts-fit-requires c κs = cells-known c
+
+returns-2 : tie.Need-returns-2
+returns-2 c =
+    let tested = c .before in
+    rw (cells-right (tested .before), sym (tested .amounts-fit .ensures) ∙ not-true _ (c .if2 .taken))
+
+carries-fit-requires : tie.Need-carries-fit-requires
+carries-fit-requires c κs = cells-known (c .before .before)
+
+returns-3 : tie.Need-returns-3
+returns-3 c =
+    let left = c .before in
+    let tested = left .before in
+    rw (cells-right (tested .before), sym (tested .amounts-fit .ensures) ∙ not-false _ (left .if2 .left))
+    (c .carries-fit .ensures)
+
+pub river-right-spec : {M : Type 1} → statement M
+river-right-spec =
+    tie.close
+    (tie.spec
+    cells-fit-requires
+    returns
+    amounts-fit-requires
+    returns-2
+    carries-fit-requires
+    returns-3)

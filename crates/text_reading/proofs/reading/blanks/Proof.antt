@@ -1,0 +1,59 @@
+-- `reading::blanks` meets its contract. The loop's invariant: the bytes passed are blanks. No assumptions.
+use Prim.Native.Nat.{_-_, _≤_}
+use mathlib.Core.Path.{_≡_}
+use native.Mathlib.Omega.{arith}
+use lib.ListN.{length, take}
+use Rattle.text_reading.specs.Reading.{cols, runOn, start}
+use Rattle.text_reading.proofs.ReadingLoop.{blanks-start, blanks-turn}
+use Rattle.text_reading.proofs.reading.blanks.Statement.{statement}
+use Rattle.text_reading.proofs.reading.blanks.Tie as tie
+
+abbrev Inv-loop : tie.InvT-loop
+Inv-loop columns i₀ i = (i ≤ length columns) × (runOn start (take i columns) ≡ cols 32 0)
+
+abbrev μ-loop : tie.MeasureT-loop
+μ-loop columns i₀ i = length columns - i
+
+loop-holds : tie.Need-loop-holds Inv-loop μ-loop
+loop-holds c = (omega arith, blanks-start (c .args .columns .now))
+
+shared-slice-read-if1 : tie.Need-shared-slice-read-if1 Inv-loop μ-loop
+shared-slice-read-if1 c = omega arith
+
+add-i : tie.Need-add-i Inv-loop μ-loop
+add-i c = omega arith
+
+loop-less : tie.Need-loop-less Inv-loop μ-loop
+loop-less c = omega arith
+
+loop-again : tie.Need-loop-again Inv-loop μ-loop
+loop-again c =
+    let at-loop = c .before .before .before in
+    let now = at-loop .loop in (
+      omega arith,
+      blanks-turn (at-loop .before .args .columns .now) (now .i) (omega arith) (c .if1 .taken) (now .inv .1),
+    )
+
+-- Another byte.
+returns : tie.Need-returns Inv-loop μ-loop
+returns c =
+    let at-loop = c .before .before .before in
+    record { within = omega arith; seen = at-loop .loop .inv .1; stop = λ l. c .if1 .left }
+
+-- Blanks alone.
+returns-2 : tie.Need-returns-2 Inv-loop μ-loop
+returns-2 c = record { within = omega arith; seen = c .before .loop .inv .1; stop = λ l. absurd (omega arith) }
+
+pub blanks-spec : {M : Type 1} → statement M
+blanks-spec =
+    tie.close
+    (tie.spec
+    Inv-loop
+    μ-loop
+    loop-holds
+    shared-slice-read-if1
+    add-i
+    loop-less
+    loop-again
+    returns
+    returns-2)

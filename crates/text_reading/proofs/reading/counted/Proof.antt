@@ -1,0 +1,64 @@
+-- `reading::counted` meets its contract: no digit, a number that is too large, or one within the limits or not.
+-- No assumptions.
+use mathlib.Core.Path.{_≡_, sym, ap, ap₂, _∙_}
+use borrow.Author.Needs.{needs}
+use lib.IntN.{ℤ}
+use mir.Facts.{toZ-ofZ}
+use Rattle.numeric.proofs.Machine.{kept, result-is}
+use Rattle.text_reading.specs.Reading.{signed, within}
+use Rattle.text_reading.proofs.DigitLoop.{counted-none, counted-large, counted-within}
+use Rattle.text_reading.proofs.reading.counted.Statement.{statement}
+use Rattle.text_reading.proofs.reading.counted.Tie as tie
+
+none-requires : tie.Need-none-requires
+none-requires c κs = search needs
+
+-- No digit.
+returns : tie.Need-returns
+returns c =
+    let args = c .before .before .args in
+    c .none .ensures ∙ sym (counted-none (args .lowest) (args .highest) (args .mark) (args .size) (c .before .if1 .taken))
+
+none-requires-2 : tie.Need-none-requires-2
+none-requires-2 c κs = search needs
+
+-- Too large.
+returns-2 : tie.Need-returns-2
+returns-2 c =
+    let args = c .before .before .before .args in
+    c .none2 .ensures ∙ sym (counted-large (args .lowest) (args .highest) (args .mark) (args .size) (c .before .if2 .taken))
+
+signed-requires : tie.Need-signed-requires
+signed-requires c κs = search needs
+
+within-requires : tie.Need-within-requires
+within-requires c κs = search needs
+
+-- The number, within the limits or not.
+returns-3 : tie.Need-returns-3
+returns-3 c =
+    let at-signed = c .before in
+    let at-large = at-signed .before in
+    let at-start = at-large .before .before in
+    let args = at-start .args in
+    let number : kept (at-signed .signed .result) ≡ signed (args .mark) (args .size) =
+    result-is _ (at-signed .signed .ensures) (at-signed .signed .ok) in
+    c .within .ensures
+    ∙ ap₂ (λ (l h : ℤ). within l h (kept (at-signed .signed .result)))
+    (toZ-ofZ (at-start .fits .lowest)) (toZ-ofZ (at-start .fits .highest))
+    ∙ ap (within (args .lowest) (args .highest)) number
+    ∙ sym
+    (counted-within (args .lowest) (args .highest) (args .mark) (args .size)
+    (at-large .before .if1 .left) (at-large .if2 .left))
+
+pub counted-spec : {M : Type 1} → statement M
+counted-spec =
+    tie.close
+    (tie.spec
+    none-requires
+    returns
+    none-requires-2
+    returns-2
+    signed-requires
+    within-requires
+    returns-3)

@@ -1,0 +1,100 @@
+-- `reading::number_after` meets its contract: nothing left, a zero, or other digits. No assumptions.
+use mathlib.Core.Path.{sym, ap₂, _∙_}
+use native.Mathlib.Omega.{arith}
+use borrow.Author.Needs.{needs}
+use lib.IntN.{ℤ, pos}
+use mir.Facts.{toZ-ofZ}
+use Rattle.text_reading.specs.Reading.{within, parse}
+use Rattle.text_reading.proofs.ReadingLoop.{ready-none, ready-zeros, ready-zero, ready-minus-zero}
+use Rattle.text_reading.proofs.reading.number_after.Statement.{statement}
+use Rattle.text_reading.proofs.reading.number_after.Tie as tie
+
+none-requires : tie.Need-none-requires
+none-requires c κs = search needs
+
+-- The text ends after blanks, or after a minus.
+returns : tie.Need-returns
+returns c =
+    let at-start = c .before .before .before in
+    let args = at-start .args in
+    c .none .ensures
+    ∙ sym
+    (ready-none (args .lowest) (args .highest) (args .columns .now) (args .start) (args .mark) (at-start .pre)
+    (omega arith))
+
+shared-slice-read-if2 : tie.Need-shared-slice-read-if2
+shared-slice-read-if2 c = search needs
+
+add-if3 : tie.Need-add-if3
+add-if3 c = search needs
+
+none-requires-2 : tie.Need-none-requires-2
+none-requires-2 c κs = search needs
+
+-- A byte after a zero.
+returns-2 : tie.Need-returns-2
+returns-2 c =
+    let at-zero = c .before .before in
+    let at-start = at-zero .before .before .before .before in
+    let args = at-start .args in
+    c .none2 .ensures
+    ∙ sym
+    (ready-zeros (args .lowest) (args .highest) (args .columns .now) (args .start) (args .mark) (at-start .pre)
+    (omega arith) (at-zero .if2 .taken))
+
+within-requires : tie.Need-within-requires
+within-requires c κs = search needs
+
+-- A zero alone.
+returns-3 : tie.Need-returns-3
+returns-3 c =
+    let at-zero = c .before .before .before in
+    let at-start = at-zero .before .before .before .before in
+    let args = at-start .args in
+    c .within .ensures
+    ∙ ap₂ (λ (l h : ℤ). within l h (pos 0)) (toZ-ofZ (at-start .fits .lowest)) (toZ-ofZ (at-start .fits .highest))
+    ∙ sym
+    (ready-zero (args .lowest) (args .highest) (args .columns .now) (args .start) (args .mark) (at-start .pre)
+    (omega arith) (omega arith) (at-zero .if2 .taken) (c .before .if4 .taken))
+
+none-requires-3 : tie.Need-none-requires-3
+none-requires-3 c κs = search needs
+
+-- A zero after a minus.
+returns-4 : tie.Need-returns-4
+returns-4 c =
+    let at-zero = c .before .before .before in
+    let at-start = at-zero .before .before .before .before in
+    let args = at-start .args in
+    c .none3 .ensures
+    ∙ sym
+    (ready-minus-zero (args .lowest) (args .highest) (args .columns .now) (args .start) (args .mark) (at-start .pre)
+    (omega arith) (at-zero .if2 .taken) (c .before .if4 .left))
+
+digits-after-requires : tie.Need-digits-after-requires
+digits-after-requires c κs = search needs
+
+-- No zero.
+returns-5 : tie.Need-returns-5
+returns-5 c =
+    let at-start = c .before .before .before .before .before in
+    c .digits-after .ensures
+    ∙ ap₂ (λ (l h : ℤ). parse l h (at-start .args .columns .now))
+    (toZ-ofZ (at-start .fits .lowest)) (toZ-ofZ (at-start .fits .highest))
+
+pub number-after-spec : {M : Type 1} → statement M
+number-after-spec =
+    tie.close
+    (tie.spec
+    none-requires
+    returns
+    shared-slice-read-if2
+    add-if3
+    none-requires-2
+    returns-2
+    within-requires
+    returns-3
+    none-requires-3
+    returns-4
+    digits-after-requires
+    returns-5)

@@ -1,0 +1,5 @@
+-- Laws by subject: load; air; flow.
+pub mod LoadLaws
+pub mod AirLaws
+pub mod FlowLaws
+pub mod FlowLists

@@ -1,0 +1,119 @@
+-- `flow::add_came` meets its contract. The loop's invariant: what left is added to the first k amounts from the
+-- second cell on. No assumptions.
+use Prim.Native.Nat.{ℕ, _+_, _-_, _*_, _≤_}
+use mathlib.Core.Path.{_≡_, ap, _∙_}
+use native.Mathlib.Omega.{arith}
+use borrow.Author.Needs.{sfits-of}
+use lib.ListN.{getD}
+use lib.IntN.{pos, _+ℤ_}
+use mir.Facts.{toZ-ofZ}
+use Rattle.numeric.specs.Table.{run}
+use Rattle.numeric.proofs.Machine.{kept}
+use Rattle.numeric.proofs.Filling.{run-none, run-more, run-beyond}
+use Rattle.transport.proofs.flow.add_came.Statement.{statement}
+use Rattle.transport.proofs.flow.add_came.Tie as tie
+
+abbrev Inv-loop : tie.InvT-loop
+Inv-loop cells amounts₀ left end k₀ amounts k =
+    (k ≤ (cells - 1) * 18) × (amounts ≡ run amounts₀ 18 k (λ (j : ℕ). getD amounts₀ (18 + j) (pos 0) +ℤ getD left j (pos 0)))
+
+abbrev μ-loop : tie.MeasureT-loop
+μ-loop cells amounts₀ left end k₀ amounts k = 144 - k
+
+sub-end : tie.Need-sub-end Inv-loop μ-loop
+sub-end c = omega arith
+
+mul-end : tie.Need-mul-end Inv-loop μ-loop
+mul-end c = omega arith
+
+-- The amount at k is what stayed.
+still : (c : tie.At-loop Inv-loop μ-loop)
+    → getD (c .loop .amounts) (18 + c .loop .k) (pos 0) ≡ getD (c .before .args .amounts .now) (18 + c .loop .k) (pos 0)
+still c =
+    ap (λ l. getD l (18 + c .loop .k) (pos 0)) (c .loop .inv .1)
+    ∙ run-beyond (c .before .args .amounts .now) 18 (c .loop .k) _ (18 + c .loop .k) (pos 0) (omega arith)
+
+loop-holds : tie.Need-loop-holds Inv-loop μ-loop
+loop-holds c = (omega arith, run-none _ 18 _)
+
+add-with : tie.Need-add-with Inv-loop μ-loop
+add-with c = omega arith
+
+mul-with : tie.Need-mul-with Inv-loop μ-loop
+mul-with c = omega arith
+
+element-copy-out-with : tie.Need-element-copy-out-with Inv-loop μ-loop
+element-copy-out-with c = omega arith
+
+mul-with-2 : tie.Need-mul-with-2 Inv-loop μ-loop
+mul-with-2 c = omega arith
+
+element-copy-out-with-2 : tie.Need-element-copy-out-with-2 Inv-loop μ-loop
+element-copy-out-with-2 c = omega arith
+
+with-requires : tie.Need-with-requires Inv-loop μ-loop
+with-requires c κs =
+    let at-loop = c .before .before .before in
+    let handed = at-loop .before .pre in
+    let k = at-loop .loop .k in (
+      rw (toZ-ofZ (sfits-of (c .before .with-arg .given)), still at-loop) (handed .2 .small (18 + k) (omega arith)),
+      rw (toZ-ofZ (sfits-of (c .with-arg2 .given))) (handed .3 .small k (omega arith)),
+    )
+
+add-t18 : tie.Need-add-t18 Inv-loop μ-loop
+add-t18 c = omega arith
+
+mul-t19 : tie.Need-mul-t19 Inv-loop μ-loop
+mul-t19 c = omega arith
+
+element-set-from-amounts : tie.Need-element-set-from-amounts Inv-loop μ-loop
+element-set-from-amounts c = omega arith
+
+add-k : tie.Need-add-k Inv-loop μ-loop
+add-k c = omega arith
+
+loop-less : tie.Need-loop-less Inv-loop μ-loop
+loop-less c = omega arith
+
+loop-again : tie.Need-loop-again Inv-loop μ-loop
+loop-again c =
+    let at-loop = c .before .before .before .before in
+    let value = kept (c .with .result) in (
+      omega arith,
+      run-more _ 18 (at-loop .loop .k) _ (at-loop .loop .amounts) value (at-loop .loop .inv .1)
+          (rw (
+            toZ-ofZ (sfits-of (c .with .ok)),
+            c .with .ensures,
+            toZ-ofZ (sfits-of (c .before .before .with-arg .given)),
+            toZ-ofZ (sfits-of (c .before .with-arg2 .given)),
+            still at-loop,
+          )),
+    )
+
+returns : tie.Need-returns Inv-loop μ-loop
+returns c =
+    let all : c .before .loop .k ≡ (c .before .before .args .cells - 1) * 18 = omega arith in
+    rw all at (c .before .loop .inv .1)
+
+pub add-came-spec : {M : Type 1} → statement M
+add-came-spec =
+    tie.close
+    (tie.spec
+    Inv-loop
+    μ-loop
+    sub-end
+    mul-end
+    loop-holds
+    add-with
+    mul-with
+    element-copy-out-with
+    mul-with-2
+    element-copy-out-with-2
+    with-requires
+    add-t18
+    mul-t19
+    element-set-from-amounts
+    add-k
+    loop-less
+    loop-again
+    returns)

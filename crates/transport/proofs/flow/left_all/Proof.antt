@@ -1,0 +1,73 @@
+-- `flow::left_all` meets its contract. The loop's invariant: the first k elements are what passes of the first k
+-- amounts. No assumptions.
+use Prim.Native.Nat.{ℕ, _-_}
+use native.Mathlib.Omega.{arith}
+use mathlib.Core.Path.{refl}
+use lib.ListN.{getD}
+use lib.IntN.{pos}
+use borrow.Author.Needs.{sfits-of}
+use mir.Facts.{toZ-ofZ}
+use Rattle.numeric.proofs.Filling.{Filled, fill-none, fill-more, fill-done}
+use Rattle.transport.specs.Flow.{passing, leftOf}
+use Rattle.transport.proofs.flow.left_all.Statement.{statement}
+use Rattle.transport.proofs.flow.left_all.Tie as tie
+
+abbrev Inv-loop : tie.InvT-loop
+Inv-loop amounts part left₀ k₀ left k = Filled 144 k (λ (j : ℕ). passing part (getD amounts j (pos 0))) left
+
+abbrev μ-loop : tie.MeasureT-loop
+μ-loop amounts part left₀ k₀ left k = 144 - k
+
+loop-holds : tie.Need-loop-holds Inv-loop μ-loop
+loop-holds c = fill-none 144 _ _ refl
+
+mul-passed : tie.Need-mul-passed Inv-loop μ-loop
+mul-passed c = omega arith
+
+element-copy-out-passed : tie.Need-element-copy-out-passed Inv-loop μ-loop
+element-copy-out-passed c = omega arith
+
+passed-requires : tie.Need-passed-requires Inv-loop μ-loop
+passed-requires c κs =
+    let at-loop = c .before .before in
+    let handed = at-loop .before .pre in
+    (handed .0, rw (toZ-ofZ (sfits-of (c .passed-arg .given))) (handed .1 .small (at-loop .loop .k) (omega arith)))
+
+mul-left : tie.Need-mul-left Inv-loop μ-loop
+mul-left c = omega arith
+
+array-set-from-left : tie.Need-array-set-from-left Inv-loop μ-loop
+array-set-from-left c = omega arith
+
+add-k : tie.Need-add-k Inv-loop μ-loop
+add-k c = omega arith
+
+loop-less : tie.Need-loop-less Inv-loop μ-loop
+loop-less c = omega arith
+
+loop-again : tie.Need-loop-again Inv-loop μ-loop
+loop-again c =
+    let at-loop = c .before .before .before in
+    fill-more 144 (at-loop .loop .k) _ _ _ (at-loop .loop .inv) (omega arith)
+    (rw (toZ-ofZ (sfits-of (c .passed .ok)), c .passed .ensures, toZ-ofZ (sfits-of (c .before .passed-arg .given))))
+
+returns : tie.Need-returns Inv-loop μ-loop
+unfolding leftOf
+returns c = fill-done 144 _ _ _ (c .before .loop .inv) (omega arith)
+
+pub left-all-spec : {M : Type 1} → statement M
+left-all-spec =
+    tie.close
+    (tie.spec
+    Inv-loop
+    μ-loop
+    loop-holds
+    mul-passed
+    element-copy-out-passed
+    passed-requires
+    mul-left
+    array-set-from-left
+    add-k
+    loop-less
+    loop-again
+    returns)

@@ -1,0 +1,124 @@
+-- `flow::passed` meets its contract: below zero the part of the size is taken of the negated amount, and negated again.
+-- No assumptions.
+use Prim.Native.Nat.{_<_, _^_}
+use mathlib.Core.List.{[], _∷_}
+use mathlib.Core.Path.{_≡_, _∙_}
+use native.Mathlib.Omega.{arith}
+use lib.Dec.{T}
+use lib.IntN.{ℤ, pos, negsuc, negℤ, natAbs, _-ℤ_, +ℤ-idl}
+use lib.Signed.{nonNeg, _≤ℤ_, _<ℤ_, yes-nonNeg}
+use borrow.Author.Needs.{needs}
+use mir.Syntax.{w64}
+use mir.Val.{SFits}
+use mir.Facts.{toZ-ofZ, toZ-pos, sfits-lit}
+use Rattle.numeric.proofs.Expression.{v, #, ⊝, below-of}
+use Rattle.numeric.proofs.Bounds.{fits-abs, abs-neg}
+use Rattle.numeric.proofs.Comparison.{bits-lt, bits-nlt}
+use Rattle.numeric.proofs.Fitting.{Bounded, _&_, all}
+use Rattle.numeric.proofs.Machine.{asked, ran}
+use Rattle.transport.specs.Stages.{largest}
+use Rattle.transport.proofs.FlowLaws.{share, share-le, passing-below, passing-above}
+use Rattle.transport.proofs.flow.passed.Statement.{statement}
+use Rattle.transport.proofs.flow.passed.Tie as tie
+
+known : (c : tie.Start) → Bounded (c .args .amount ∷ []) (largest ∷ [])
+known c = c .pre .1 & all
+
+negated-nonNeg : (z : ℤ) → z <ℤ pos 0 → T (nonNeg (negℤ z))
+negated-nonNeg (pos n) h = absurd (omega (arith, below-of (pos n ∷ []) (v 0) (# (pos 0)) h))
+negated-nonNeg (negsuc n) h = tt
+
+below : (c : tie.Then1) → c .before .args .amount <ℤ pos 0
+below c = bits-lt (c .before .fits .amount) (sfits-lit {z = pos 0} tt) (c .if1 .taken)
+
+above : (c : tie.Else1) → pos 0 ≤ℤ c .before .args .amount
+above c = bits-nlt (c .before .fits .amount) (sfits-lit {z = pos 0} tt) (c .if1 .left)
+
+-- What `part_of` answered, and that it fits.
+part-below : (c : tie.After-part-of)
+    → c .part-of .result ≡ share (c .before .before .args .part) (natAbs (c .before .before .args .amount))
+part-below c =
+    let at-start = c .before .before in
+    c .part-of .ensures ∙ rw (ran (known at-start) (⊝ (v 0)) tt, abs-neg (at-start .args .amount))
+
+part-above : (c : tie.After-part-of2)
+    → c .part-of2 .result ≡ share (c .before .before .args .part) (natAbs (c .before .before .args .amount))
+part-above c = c .part-of2 .ensures ∙ rw (toZ-ofZ (c .before .before .fits .amount))
+
+part-fits : (c : tie.After-part-of) → c .part-of .result < 2 ^ 63
+part-fits c =
+    let at-start = c .before .before in
+    omega (arith, part-below c, share-le (at-start .args .part) (natAbs (at-start .args .amount)) (at-start .pre .0))
+
+part-fits-2 : (c : tie.After-part-of2) → c .part-of2 .result < 2 ^ 63
+part-fits-2 c =
+    let at-start = c .before .before in
+    omega (arith, part-above c, share-le (at-start .args .part) (natAbs (at-start .args .amount)) (at-start .pre .0))
+
+minus-fits : (c : tie.After-part-of) → SFits w64 (pos 0 -ℤ pos (c .part-of .result))
+minus-fits c =
+    let result = pos (c .part-of .result) in
+    rw (+ℤ-idl (negℤ result)) (fits-abs (negℤ result) (omega (arith, abs-neg result, part-fits c)))
+
+sub-part-of : tie.Need-sub-part-of
+sub-part-of c = asked (known (c .before)) (⊝ (v 0)) tt
+
+cast-part-of : tie.Need-cast-part-of
+cast-part-of c =
+    let amount = c .before .args .amount in
+    let back = ran (known (c .before)) (⊝ (v 0)) tt in
+    (rw back (negated-nonNeg amount (below c)), rw back (omega (arith, abs-neg amount)))
+
+part-of-requires : tie.Need-part-of-requires
+part-of-requires c κs = search needs
+
+cast-result : tie.Need-cast-result
+cast-result c = fits-abs (pos (c .part-of .result)) (part-fits c)
+
+sub-result : tie.Need-sub-result
+sub-result c = rw (toZ-pos w64 (part-fits c)) (minus-fits c)
+
+-- Below zero.
+returns : tie.Need-returns
+returns c =
+    let args = c .before .before .args in
+    let result = pos (c .part-of .result) in
+    rw (
+      toZ-pos w64 (part-fits c),
+      toZ-ofZ (minus-fits c),
+      +ℤ-idl (negℤ result),
+      part-below c,
+      passing-below (args .part) (args .amount) (below (c .before)),
+    )
+
+cast-part-of-2 : tie.Need-cast-part-of-2
+cast-part-of-2 c =
+    let back = toZ-ofZ (c .before .fits .amount) in
+    (rw back (yes-nonNeg (above c)), rw back (omega arith))
+
+part-of-requires-2 : tie.Need-part-of-requires-2
+part-of-requires-2 c κs = search needs
+
+cast-result-2 : tie.Need-cast-result-2
+cast-result-2 c = fits-abs (pos (c .part-of2 .result)) (part-fits-2 c)
+
+-- From zero on.
+returns-2 : tie.Need-returns-2
+returns-2 c =
+    let args = c .before .before .args in
+    rw (toZ-pos w64 (part-fits-2 c), part-above c, passing-above (args .part) (args .amount) (above (c .before)))
+
+pub passed-spec : {M : Type 1} → statement M
+passed-spec =
+    tie.close
+    (tie.spec
+    sub-part-of
+    cast-part-of
+    part-of-requires
+    cast-result
+    sub-result
+    returns
+    cast-part-of-2
+    part-of-requires-2
+    cast-result-2
+    returns-2)

@@ -1,0 +1,105 @@
+-- `flow::take_left` meets its contract. The loop's invariant: what left is taken from the first k amounts. No
+-- assumptions.
+use Prim.Native.Nat.{ℕ, _-_, _≤_}
+use mathlib.Core.Path.{_≡_, sym, ap, _∙_}
+use native.Mathlib.Nat.{zero-add}
+use native.Mathlib.Omega.{arith}
+use borrow.Author.Needs.{sfits-of}
+use lib.ListN.{getD, set}
+use lib.IntN.{pos, _-ℤ_}
+use mir.Facts.{toZ-ofZ}
+use Rattle.numeric.specs.Table.{run}
+use Rattle.numeric.proofs.Machine.{kept}
+use Rattle.numeric.proofs.Filling.{run-none, run-more, run-beyond}
+use Rattle.transport.proofs.flow.take_left.Statement.{statement}
+use Rattle.transport.proofs.flow.take_left.Tie as tie
+
+abbrev Inv-loop : tie.InvT-loop
+Inv-loop amounts₀ left k₀ amounts k = (k ≤ 144) × (amounts ≡ run amounts₀ 0 k (λ (j : ℕ). getD amounts₀ j (pos 0) -ℤ getD left j (pos 0)))
+
+abbrev μ-loop : tie.MeasureT-loop
+μ-loop amounts₀ left k₀ amounts k = 144 - k
+
+-- The amount at k is the one before.
+still : (c : tie.At-loop Inv-loop μ-loop)
+    → getD (c .loop .amounts) (c .loop .k) (pos 0) ≡ getD (c .before .args .amounts .now) (c .loop .k) (pos 0)
+still c =
+    ap (λ l. getD l (c .loop .k) (pos 0)) (c .loop .inv .1)
+    ∙ run-beyond (c .before .args .amounts .now) 0 (c .loop .k) _ (c .loop .k) (pos 0) (omega arith)
+
+loop-holds : tie.Need-loop-holds Inv-loop μ-loop
+loop-holds c = (omega arith, run-none _ 0 _)
+
+mul-less : tie.Need-mul-less Inv-loop μ-loop
+mul-less c = omega arith
+
+element-copy-out-less : tie.Need-element-copy-out-less Inv-loop μ-loop
+element-copy-out-less c = omega arith
+
+mul-less-2 : tie.Need-mul-less-2 Inv-loop μ-loop
+mul-less-2 c = omega arith
+
+element-copy-out-less-2 : tie.Need-element-copy-out-less-2 Inv-loop μ-loop
+element-copy-out-less-2 c = omega arith
+
+less-requires : tie.Need-less-requires Inv-loop μ-loop
+less-requires c κs =
+    let at-loop = c .before .before .before in
+    let handed = at-loop .before .pre in
+    let k = at-loop .loop .k in (
+      rw (toZ-ofZ (sfits-of (c .before .less-arg .given)), still at-loop) (handed .0 .small k (omega arith)),
+      rw (toZ-ofZ (sfits-of (c .less-arg2 .given))) (handed .1 .small k (omega arith)),
+    )
+
+mul-t14 : tie.Need-mul-t14 Inv-loop μ-loop
+mul-t14 c = omega arith
+
+element-set-from-amounts : tie.Need-element-set-from-amounts Inv-loop μ-loop
+element-set-from-amounts c = omega arith
+
+add-k : tie.Need-add-k Inv-loop μ-loop
+add-k c = omega arith
+
+loop-less : tie.Need-loop-less Inv-loop μ-loop
+loop-less c = omega arith
+
+loop-again : tie.Need-loop-again Inv-loop μ-loop
+loop-again c =
+    let at-loop = c .before .before .before .before in
+    let k = at-loop .loop .k in
+    let value = kept (c .less .result) in (
+      omega arith,
+      ap (λ (i : ℕ). set (at-loop .loop .amounts) i value) (sym (zero-add k))
+          ∙ run-more _ 0 k _ (at-loop .loop .amounts) value (at-loop .loop .inv .1)
+          (rw (
+            toZ-ofZ (sfits-of (c .less .ok)),
+            c .less .ensures,
+            toZ-ofZ (sfits-of (c .before .before .less-arg .given)),
+            toZ-ofZ (sfits-of (c .before .less-arg2 .given)),
+            still at-loop,
+          )),
+    )
+
+returns : tie.Need-returns Inv-loop μ-loop
+returns c =
+    let all : c .before .loop .k ≡ 144 = omega arith in
+    rw all at (c .before .loop .inv .1)
+
+pub take-left-spec : {M : Type 1} → statement M
+take-left-spec =
+    tie.close
+    (tie.spec
+    Inv-loop
+    μ-loop
+    loop-holds
+    mul-less
+    element-copy-out-less
+    mul-less-2
+    element-copy-out-less-2
+    less-requires
+    mul-t14
+    element-set-from-amounts
+    add-k
+    loop-less
+    loop-again
+    returns)

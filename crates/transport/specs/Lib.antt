@@ -1,0 +1,4 @@
+pub mod Load
+pub mod Flow
+pub mod Stages
+pub mod Air

@@ -1,0 +1,32 @@
+-- What the inner functions of flow ask of amounts and hand to each other: sizes (scope, "Units and substances": the
+-- widest bound), and the amounts on their way from before to after. That a river which check 4 does not refuse has
+-- such amounts, and that the last stage is the amounts after: proofs/FlowLists.antt. No assumptions.
+use Prim.Native.Nat.{ℕ, _+_, _-_, _*_, _<_, _≤_}
+use mathlib.Core.List.{List}
+use lib.ListN.{getD}
+use lib.IntN.{ℤ, pos, natAbs, _+ℤ_, _-ℤ_}
+use Rattle.numeric.specs.Table.{run}
+use Rattle.stoichiometry.specs.Substances.{substances}
+use Rattle.river.specs.Rivers.{mostCells}
+
+-- The greatest size of an amount: 10^18.
+abbrev pub largest : ℕ
+largest = 1000000000000000000
+
+-- No amount is larger than `most`; than the greatest size.
+pub record AmountsWithin (most : ℕ) (amounts : List ℤ) : Type 0 where
+  pub small : (k : ℕ) → k < mostCells * substances → natAbs (getD amounts k (pos 0)) ≤ most
+
+abbrev pub SmallAmounts : List ℤ → Type 0
+SmallAmounts = AmountsWithin largest
+
+-- What stays of each amount.
+abbrev pub stayedOf : List ℤ → List ℤ → List ℤ
+stayedOf amounts left =
+    run amounts 0 (mostCells * substances) (λ (k : ℕ). getD amounts k (pos 0) -ℤ getD left k (pos 0))
+
+-- What stayed, and from the second cell on what came: what left the cell above.
+abbrev pub joinedOf : ℕ → List ℤ → List ℤ → List ℤ
+joinedOf n stayed left =
+    run stayed substances ((n - 1) * substances)
+    (λ (k : ℕ). getD stayed (substances + k) (pos 0) +ℤ getD left k (pos 0))

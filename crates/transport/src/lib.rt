@@ -1,0 +1,125 @@
+// What comes into the river, passes along it and leaves it: load, flow and air.
+ghost use mathlib.Core.Path.{_≡_};
+ghost use Rattle.transport.specs.Load.{loadAnswer};
+ghost use Rattle.transport.specs.Flow.{flowAnswer};
+ghost use Rattle.transport.specs.Air.{airAnswer};
+use crate::air::O2;
+use crate::air::figure_wrong;
+use crate::air::gain_of;
+use crate::flow::left_all;
+use crate::flow::move_amounts;
+use crate::load::amount_at;
+use crate::load::cell_exists;
+use crate::load::set_amount;
+use crate::load::substance_exists;
+use crate::load::sum_fits;
+use numeric::both;
+use river::AMOUNTS;
+use river::Changed;
+use river::River;
+use river::river_right;
+
+mod air;
+mod flow;
+mod load;
+
+// The river after a flow, and what left each cell; on refusal the number, the river handed in, and zeros.
+pub struct Flowed {
+    pub number: u32,
+    pub river: River,
+    pub left: [i64; AMOUNTS],
+}
+
+// The river after air, and the signed amount of O2 it brought, grains; on refusal the number, the river handed in,
+// and 0.
+pub struct Aired {
+    pub number: u32,
+    pub river: River,
+    pub amount: i64,
+}
+
+// Adds a number, of either sign, to an amount; the cell and the substance are counted from 1. Refuses with 4, 5 or 8,
+// in this order.
+pub fn load_river(river: River, cell: u32, substance: u32, number: i64) -> Changed
+    ensures answer { λ r. ⌜ r ≡ loadAnswer river cell substance number ⌝ }
+{
+    // The answer's river is tested and changed in place: no other copy of it is made.
+    let mut answer = Changed { number: 0, river };
+    let cells = answer.river.cells;
+    if !river_right(cells, &answer.river.amounts, &answer.river.carries) {
+        answer.number = 4;
+        return answer;
+    }
+    if !both(cell_exists(cells, cell), substance_exists(substance)) {
+        answer.number = 5;
+        return answer;
+    }
+    let c = (cell - 1) as usize;
+    let s = (substance - 1) as usize;
+    let amount = amount_at(&answer.river.amounts, c, s);
+    if !sum_fits(s, amount, number) {
+        answer.number = 8;
+        return answer;
+    }
+    set_amount(&mut answer.river.amounts, c, s, amount + number);
+    answer
+}
+
+// A flow of a part. Refuses with 4 (a wrong river) or 6 (a part above 10,000), in this order. There is no test for 8:
+// the amounts after are always in their bounds (proofs/FlowLaws.antt, flow-never-eight).
+pub fn flow_river(river: River, part: u32) -> Flowed
+    ensures answer { λ r. ⌜ r ≡ flowAnswer river part ⌝ }
+{
+    // The answer's river is tested and changed in place: no other copy of it is made.
+    let mut answer = Flowed {
+        number: 0,
+        river,
+        left: [0; AMOUNTS],
+    };
+    let cells = answer.river.cells;
+    if !river_right(cells, &answer.river.amounts, &answer.river.carries) {
+        answer.number = 4;
+        return answer;
+    }
+    if part > River::PART_MOST {
+        answer.number = 6;
+        return answer;
+    }
+    let left = left_all(&answer.river.amounts, part as u64);
+    move_amounts(cells as usize, &mut answer.river.amounts, &left);
+    answer.left = left;
+    answer
+}
+
+// Exchange of O2 between a cell, counted from 1, and the air. Answers the river with the cell's O2 changed, and the
+// gain. Refuses with 4, 5 or 6, in this order. That the O2 after is in its bounds is not tested: it always is, by the
+// law air-never-eight.
+pub fn air_river(river: River, cell: u32, constant: u32, seconds: u32, saturation: u32) -> Aired
+    ensures answer { λ r. ⌜ r ≡ airAnswer river cell constant seconds saturation ⌝ }
+{
+    // The answer's river is tested and changed in place: no other copy of it is made.
+    let mut answer = Aired {
+        number: 0,
+        river,
+        amount: 0,
+    };
+    let cells = answer.river.cells;
+    if !river_right(cells, &answer.river.amounts, &answer.river.carries) {
+        answer.number = 4;
+        return answer;
+    }
+    if !cell_exists(cells, cell) {
+        answer.number = 5;
+        return answer;
+    }
+    if figure_wrong(constant, seconds, saturation) {
+        answer.number = 6;
+        return answer;
+    }
+    let c = (cell - 1) as usize;
+    let amount = amount_at(&answer.river.amounts, c, O2);
+    let brought = gain_of(constant, seconds, saturation, amount);
+    set_amount(&mut answer.river.amounts, c, O2, amount + brought);
+    answer.amount = brought;
+    answer
+}
