@@ -3,8 +3,9 @@ ghost use mathlib.Core.Path.{_≡_};
 ghost use Prim.Native.Nat.{_+_, _*_, _≤_, _<_};
 ghost use lib.ListN.{length};
 ghost use lib.IntN.{pos};
+ghost use Rattle.river.specs.Rivers.{mostCells};
 ghost use Rattle.text.specs.Writes.{put};
-ghost use Rattle.record.specs.Lines.{front, line, cellText, recordText, valueOf};
+ghost use Rattle.record.specs.Lines.{front, line, cellText, recordText, valueOf, lines, lineBytes, cellBytes};
 ghost use Rattle.record.specs.Stages.{lineNumbers};
 use crate::CELL_BYTES;
 use crate::LINE_BYTES;
@@ -22,7 +23,7 @@ const NUMBER_BYTES: usize = LINES * 2;
 
 // The numbers of the lines of a cell, from 1, in two columns each. They are the same in every cell.
 fn line_numbers() -> [u8; NUMBER_BYTES]
-    ensures { λ r. ⌜ r ≡ lineNumbers 35 ⌝ }
+    ensures { λ r. ⌜ r ≡ lineNumbers lines ⌝ }
 {
     let mut numbers = [0; NUMBER_BYTES];
     let mut k = 0;
@@ -35,7 +36,7 @@ fn line_numbers() -> [u8; NUMBER_BYTES]
 
 // What stands before the value on line k, from 0.
 fn write_front(line: &mut [u8], cell: u32, numbers: &[u8; NUMBER_BYTES], k: usize)
-    requires { ⌜ (k < 35) × (6 ≤ length (now line)) × (now numbers ≡ lineNumbers 35) ⌝ }
+    requires { ⌜ (k < lines) × (6 ≤ length (now line)) × (now numbers ≡ lineNumbers lines) ⌝ }
     ensures { λ _. ⌜ now (line .exit) ≡ put (now (line .entry)) 0 (front cell (k + 1)) ⌝ }
 {
     write_two(line, 0, cell);
@@ -57,7 +58,7 @@ fn write_line(
     k: usize,
     value: i64,
 )
-    requires { ⌜ (k < 35) × (at + 27 ≤ length (now out)) × (now numbers ≡ lineNumbers 35) ⌝ }
+    requires { ⌜ (k < lines) × (at + lineBytes ≤ length (now out)) × (now numbers ≡ lineNumbers lines) ⌝ }
     ensures { λ _. ⌜ now (out .exit) ≡ put (now (out .entry)) at (line cell (k + 1) value) ⌝ }
 {
     let end = at + LINE_BYTES;
@@ -75,7 +76,7 @@ fn wide(x: u32) -> i64
 
 // The value on line k of cell c, both from 0.
 fn value_at(amounts: &[i64; AMOUNTS], carries: &[u32; CARRIES], c: usize, k: usize) -> i64
-    requires { ⌜ (c < 8) × (k < 35) ⌝ }
+    requires { ⌜ (c < mostCells) × (k < lines) ⌝ }
     ensures { λ r. ⌜ r ≡ valueOf (now (amounts .entry)) (now (carries .entry)) c k ⌝ }
 {
     if k < SUBSTANCES {
@@ -92,8 +93,8 @@ fn write_cell(
     amounts: &[i64; AMOUNTS],
     carries: &[u32; CARRIES],
 )
-    requires { ⌜ (c < 8) × (c * 945 + 945 ≤ length (now out)) × (now numbers ≡ lineNumbers 35) ⌝ }
-    ensures { λ _. ⌜ now (out .exit) ≡ put (now (out .entry)) (c * 945) (cellText 35 (valueOf (now (amounts .entry)) (now (carries .entry))) c) ⌝ }
+    requires { ⌜ (c < mostCells) × (c * cellBytes + cellBytes ≤ length (now out)) × (now numbers ≡ lineNumbers lines) ⌝ }
+    ensures { λ _. ⌜ now (out .exit) ≡ put (now (out .entry)) (c * cellBytes) (cellText lines (valueOf (now (amounts .entry)) (now (carries .entry))) c) ⌝ }
 {
     let start = c * CELL_BYTES;
     let cell = (c + 1) as u32;
@@ -112,8 +113,8 @@ pub(crate) fn write_cells<'a>(
     amounts: &'a [i64; AMOUNTS],
     carries: &'a [u32; CARRIES],
 )
-    requires { ⌜ (n ≤ 8) × (n * 945 ≤ length (now out)) ⌝ }
-    ensures { λ _. ⌜ now (out .exit) ≡ put (now (out .entry)) 0 (recordText n 35 (valueOf (now (amounts .entry)) (now (carries .entry)))) ⌝ }
+    requires { ⌜ (n ≤ mostCells) × (n * cellBytes ≤ length (now out)) ⌝ }
+    ensures { λ _. ⌜ now (out .exit) ≡ put (now (out .entry)) 0 (recordText n lines (valueOf (now (amounts .entry)) (now (carries .entry)))) ⌝ }
 {
     let numbers = line_numbers();
     let mut c = 0;

@@ -7,11 +7,13 @@ ghost use lib.ListN.{length, replicate};
 ghost use lib.IntN.{pos, natAbs};
 ghost use Rattle.numeric.specs.Check.{every};
 ghost use Rattle.numeric.specs.Table.{run};
-ghost use Rattle.river.specs.Rivers.{cellsFit, zeroRiver};
+ghost use Rattle.stoichiometry.specs.Rows.{processes};
+ghost use Rattle.stoichiometry.specs.Substances.{substances};
+ghost use Rattle.river.specs.Rivers.{cellsFit, zeroRiver, mostCells};
 ghost use Rattle.text.specs.Blocks.{part};
 ghost use Rattle.text.specs.Decimals.{glyph};
 ghost use Rattle.text_reading.specs.Reading.{none};
-ghost use Rattle.record.specs.Lines.{front};
+ghost use Rattle.record.specs.Lines.{front, lines, lineBytes, cellBytes};
 ghost use Rattle.record_reading.specs.Reading.{sameBytes, lineNumber, lowestOn, highestOn, valueAt, linesRight, amountsIn, carriesIn};
 use numeric::both;
 use record::CELL_BYTES;
@@ -73,8 +75,8 @@ fn no_number() -> Number
 
 // The number of the line from `at` on, if there is one from `lowest` to `highest`.
 fn line_number(text: &[u8], at: usize, cell: u32, number: u32, lowest: i64, highest: i64) -> Number
-    requires { ⌜ at + 27 ≤ length (now text) ⌝ }
-    ensures { λ r. ⌜ r ≡ lineNumber (part at 27 (now (text .entry))) cell number lowest highest ⌝ }
+    requires { ⌜ at + lineBytes ≤ length (now text) ⌝ }
+    ensures { λ r. ⌜ r ≡ lineNumber (part at lineBytes (now (text .entry))) cell number lowest highest ⌝ }
 {
     if text[at + 26] != b'\n' {
         return no_number();
@@ -112,10 +114,10 @@ fn read_cell(
     amounts: &mut [i64; AMOUNTS],
     carries: &mut [u32; CARRIES],
 ) -> bool
-    requires { ⌜ (c < 8) × (c * 945 + 945 ≤ length (now text)) ⌝ }
-    ensures { λ r. ⌜ r ≡ every 35 (λ k. valueAt (now (text .entry)) c k .ok) ⌝ }
-    ensures { λ r. ⌜ (r ≡ true → now (amounts .exit) ≡ run (now (amounts .entry)) (c * 18) 18 (λ k. valueAt (now (text .entry)) c k .value)) ⌝ }
-    ensures { λ r. ⌜ (r ≡ true → now (carries .exit) ≡ run (now (carries .entry)) (c * 17) 17 (λ p. natAbs (valueAt (now (text .entry)) c (18 + p) .value))) ⌝ }
+    requires { ⌜ (c < mostCells) × (c * cellBytes + cellBytes ≤ length (now text)) ⌝ }
+    ensures { λ r. ⌜ r ≡ every lines (λ k. valueAt (now (text .entry)) c k .ok) ⌝ }
+    ensures { λ r. ⌜ (r ≡ true → now (amounts .exit) ≡ run (now (amounts .entry)) (c * substances) substances (λ k. valueAt (now (text .entry)) c k .value)) ⌝ }
+    ensures { λ r. ⌜ (r ≡ true → now (carries .exit) ≡ run (now (carries .entry)) (c * processes) processes (λ p. natAbs (valueAt (now (text .entry)) c (substances + p) .value))) ⌝ }
 {
     let start = c * CELL_BYTES;
     let amount = c * SUBSTANCES;
@@ -152,8 +154,8 @@ pub(crate) fn read_cells(
     amounts: &mut [i64; AMOUNTS],
     carries: &mut [u32; CARRIES],
 ) -> bool
-    requires { ⌜ (n ≤ 8) × (n * 945 ≤ length (now text)) ⌝ }
-    requires { ⌜ (now amounts ≡ replicate 144 (pos 0)) × (now carries ≡ replicate 136 0) ⌝ }
+    requires { ⌜ (n ≤ mostCells) × (n * cellBytes ≤ length (now text)) ⌝ }
+    requires { ⌜ (now amounts ≡ replicate (mostCells * substances) (pos 0)) × (now carries ≡ replicate (mostCells * processes) 0) ⌝ }
     ensures { λ r. ⌜ r ≡ linesRight n (now (text .entry)) ⌝ }
     ensures { λ r. ⌜ (r ≡ true → now (amounts .exit) ≡ amountsIn n (now (text .entry))) ⌝ }
     ensures { λ r. ⌜ (r ≡ true → now (carries .exit) ≡ carriesIn n (now (text .entry))) ⌝ }
@@ -170,7 +172,7 @@ pub(crate) fn read_cells(
 
 // A text of this many bytes is of 1 to 8 cells.
 pub(crate) fn size_fits(bytes: usize) -> bool
-    ensures { λ r. ⌜ r ≡ (cellsFit (bytes / 945) && eqb (bytes / 945 * 945) bytes) ⌝ }
+    ensures { λ r. ⌜ r ≡ (cellsFit (bytes / cellBytes) && eqb (bytes / cellBytes * cellBytes) bytes) ⌝ }
 {
     let n = bytes / CELL_BYTES;
     both(both(1 <= n, n <= CELLS), n * CELL_BYTES == bytes)

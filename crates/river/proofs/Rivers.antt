@@ -38,13 +38,13 @@ abbrev pub cellsTest : ℕ → List ℤ → Bool
 cellsTest n amounts = every n (λ c. every substances (fitsAt amounts c))
 
 abbrev pub emptyTest : ℕ → List ℤ → Bool
-emptyTest start amounts = every (144 - start) (λ i. emptyAt amounts (start + i))
+emptyTest start amounts = every (mostCells * substances - start) (λ i. emptyAt amounts (start + i))
 
 abbrev pub lightTest : ℕ → List ℕ → Bool
 lightTest end carries = every end (lightAt carries)
 
 abbrev pub noneTest : ℕ → List ℕ → Bool
-noneTest start carries = every (136 - start) (λ i. noneAt carries (start + i))
+noneTest start carries = every (mostCells * processes - start) (λ i. noneAt carries (start + i))
 
 pub amounts-parts : (n : ℕ) (amounts : List ℤ) → n ≤ mostCells
     → amountsFit n amounts ≡ cellsTest n amounts && emptyTest (n * substances) amounts
@@ -98,17 +98,17 @@ module _ (n : ℕ) (amounts : List ℤ) (most : n ≤ mostCells) where
       let cells = and-left (cellsTest n amounts) (emptyTest (n * substances) amounts) both in
       every-at substances s (fitsAt amounts c) (every-at n c (λ d. every substances (fitsAt amounts d)) cells h) l
 
-  pub amounts-zero : amountsFit n amounts ≡ true → (k : ℕ) → n * substances ≤ k → k < 144
+  pub amounts-zero : amountsFit n amounts ≡ true → (k : ℕ) → n * substances ≤ k → k < mostCells * substances
       → getD amounts k (pos 0) ≡ pos 0
   amounts-zero fits k h l =
       let both = sym (amounts-parts n amounts most) ∙ fits in
       let empty = and-right (cellsTest n amounts) (emptyTest (n * substances) amounts) both in
       let place : n * substances + (k - n * substances) ≡ k = omega arith in
       let test : ℕ → Bool = λ i. emptyAt amounts (n * substances + i) in
-      let at-place = every-at (144 - n * substances) (k - n * substances) test empty (omega arith) in
+      let at-place = every-at (mostCells * substances - n * substances) (k - n * substances) test empty (omega arith) in
       abs-zero (getD amounts k (pos 0)) (eqb-true (natAbs (getD amounts k (pos 0))) 0 (rw place at at-place))
 
-  amount-either : amountsFit n amounts ≡ true → (k : ℕ) → k < 144 → Dec (k < n * substances)
+  amount-either : amountsFit n amounts ≡ true → (k : ℕ) → k < mostCells * substances → Dec (k < n * substances)
       → natAbs (getD amounts k (pos 0)) ≤ 1000000000000000000
   amount-either fits k h (yes l) =
       let c = k / substances in
@@ -117,20 +117,20 @@ module _ (n : ℕ) (amounts : List ℤ) (most : n ≤ mostCells) where
       rw place at (fits-bound s (amountAt amounts c s) (omega arith) (amounts-at fits c s (omega arith) (omega arith)))
   amount-either fits k h (no g) = rw (amounts-zero fits k (omega arith) h) (lit≤ tt)
 
-  pub amounts-bound : amountsFit n amounts ≡ true → (k : ℕ) → k < 144
+  pub amounts-bound : amountsFit n amounts ≡ true → (k : ℕ) → k < mostCells * substances
       → natAbs (getD amounts k (pos 0)) ≤ 1000000000000000000
   amounts-bound fits k h = amount-either fits k h (decLt k (n * substances))
 
   -- The converse.
   pub amounts-from : ((c s : ℕ) → c < n → s < substances → amountFits s (amountAt amounts c s) ≡ true)
-      → ((k : ℕ) → n * substances ≤ k → k < 144 → getD amounts k (pos 0) ≡ pos 0)
+      → ((k : ℕ) → n * substances ≤ k → k < mostCells * substances → getD amounts k (pos 0) ≡ pos 0)
       → amountsFit n amounts ≡ true
   amounts-from inside beyond =
       amounts-parts n amounts most
       ∙ ap₂ _&&_
       (every-all n (λ c. every substances (fitsAt amounts c))
       (λ c h. every-all substances (fitsAt amounts c) (λ s l. inside c s h l)))
-      (every-all (144 - n * substances) (λ i. emptyAt amounts (n * substances + i))
+      (every-all (mostCells * substances - n * substances) (λ i. emptyAt amounts (n * substances + i))
       (λ i l. eq-eqb _ 0 (ap natAbs (beyond (n * substances + i) (omega arith) (omega arith)))))
 
 -- Carries of which the first n cells fit.
@@ -141,31 +141,31 @@ module _ (n : ℕ) (carries : List ℕ) (most : n ≤ mostCells) where
       let light = and-left (lightTest (n * processes) carries) (noneTest (n * processes) carries) both in
       leb-true (getD carries k 0) 999999 (every-at (n * processes) k (lightAt carries) light l)
 
-  pub carries-zero : carriesFit n carries ≡ true → (k : ℕ) → n * processes ≤ k → k < 136 → getD carries k 0 ≡ 0
+  pub carries-zero : carriesFit n carries ≡ true → (k : ℕ) → n * processes ≤ k → k < mostCells * processes → getD carries k 0 ≡ 0
   carries-zero fits k h l =
       let both = sym (carries-parts n carries most) ∙ fits in
       let none = and-right (lightTest (n * processes) carries) (noneTest (n * processes) carries) both in
       let place : n * processes + (k - n * processes) ≡ k = omega arith in
       let test : ℕ → Bool = λ i. noneAt carries (n * processes + i) in
-      let at-place = every-at (136 - n * processes) (k - n * processes) test none (omega arith) in
+      let at-place = every-at (mostCells * processes - n * processes) (k - n * processes) test none (omega arith) in
       eqb-true (getD carries k 0) 0 (rw place at at-place)
 
-  carry-either : carriesFit n carries ≡ true → (k : ℕ) → k < 136 → Dec (k < n * processes) → getD carries k 0 ≤ 999999
+  carry-either : carriesFit n carries ≡ true → (k : ℕ) → k < mostCells * processes → Dec (k < n * processes) → getD carries k 0 ≤ 999999
   carry-either fits k h (yes l) = carries-at fits k l
   carry-either fits k h (no g) = omega (arith, carries-zero fits k (omega arith) h)
 
-  pub carries-bound : carriesFit n carries ≡ true → (k : ℕ) → k < 136 → getD carries k 0 ≤ 999999
+  pub carries-bound : carriesFit n carries ≡ true → (k : ℕ) → k < mostCells * processes → getD carries k 0 ≤ 999999
   carries-bound fits k h = carry-either fits k h (decLt k (n * processes))
 
   -- The converse.
   pub carries-from : ((k : ℕ) → k < n * processes → getD carries k 0 ≤ 999999)
-      → ((k : ℕ) → n * processes ≤ k → k < 136 → getD carries k 0 ≡ 0)
+      → ((k : ℕ) → n * processes ≤ k → k < mostCells * processes → getD carries k 0 ≡ 0)
       → carriesFit n carries ≡ true
   carries-from inside beyond =
       carries-parts n carries most
       ∙ ap₂ _&&_
       (every-all (n * processes) (lightAt carries) (λ k l. le-leb (getD carries k 0) 999999 (inside k l)))
-      (every-all (136 - n * processes) (λ i. noneAt carries (n * processes + i))
+      (every-all (mostCells * processes - n * processes) (λ i. noneAt carries (n * processes + i))
       (λ i l. eq-eqb _ 0 (beyond (n * processes + i) (omega arith) (omega arith))))
 
 -- When check 4 does not hold.
@@ -207,11 +207,11 @@ module _ (r : River) (right : riverWrong r ≡ false) where
   pub amount-fits-at : (c s : ℕ) → c < r .cells → s < substances → amountFits s (amountAt (r .amounts) c s) ≡ true
   amount-fits-at = amounts-at (r .cells) (r .amounts) (river-cells .1) river-amounts
 
-  pub amount-zero-beyond : (k : ℕ) → r .cells * substances ≤ k → k < 144 → getD (r .amounts) k (pos 0) ≡ pos 0
+  pub amount-zero-beyond : (k : ℕ) → r .cells * substances ≤ k → k < mostCells * substances → getD (r .amounts) k (pos 0) ≡ pos 0
   amount-zero-beyond = amounts-zero (r .cells) (r .amounts) (river-cells .1) river-amounts
 
   -- Every amount, also beyond the last cell.
-  pub amount-bound : (k : ℕ) → k < 144 → natAbs (getD (r .amounts) k (pos 0)) ≤ 1000000000000000000
+  pub amount-bound : (k : ℕ) → k < mostCells * substances → natAbs (getD (r .amounts) k (pos 0)) ≤ 1000000000000000000
   amount-bound = amounts-bound (r .cells) (r .amounts) (river-cells .1) river-amounts
 
   -- An amount of a substance but H+ and H2O.
@@ -223,11 +223,11 @@ module _ (r : River) (right : riverWrong r ≡ false) where
   carry-fits-at c p h l =
       carries-at (r .cells) (r .carries) (river-cells .1) river-carries (c * processes + p) (omega arith)
 
-  pub carry-zero-beyond : (k : ℕ) → r .cells * processes ≤ k → k < 136 → getD (r .carries) k 0 ≡ 0
+  pub carry-zero-beyond : (k : ℕ) → r .cells * processes ≤ k → k < mostCells * processes → getD (r .carries) k 0 ≡ 0
   carry-zero-beyond = carries-zero (r .cells) (r .carries) (river-cells .1) river-carries
 
   -- Every carry, also beyond the last cell.
-  pub carry-bound : (k : ℕ) → k < 136 → getD (r .carries) k 0 ≤ 999999
+  pub carry-bound : (k : ℕ) → k < mostCells * processes → getD (r .carries) k 0 ≤ 999999
   carry-bound = carries-bound (r .cells) (r .carries) (river-cells .1) river-carries
 
 pub zero-fits : (s : ℕ) → s < substances → amountFits s (pos 0) ≡ true
@@ -239,11 +239,11 @@ pub zero-right : (n : ℕ) → 1 ≤ n → n ≤ mostCells → riverWrong (zeroR
 zero-right n l h =
     river-right (zeroRiver n) l h
     (amounts-from n (zeroRiver n .amounts) h
-    (λ c s i j. rw (getD-replicate 144 (c * substances + s) (pos 0) (pos 0) (omega arith)) (zero-fits s j))
-    (λ k i j. getD-replicate 144 k (pos 0) (pos 0) j))
+    (λ c s i j. rw (getD-replicate (mostCells * substances) (c * substances + s) (pos 0) (pos 0) (omega arith)) (zero-fits s j))
+    (λ k i j. getD-replicate (mostCells * substances) k (pos 0) (pos 0) j))
     (carries-from n (zeroRiver n .carries) h
-    (λ k i. rw (getD-replicate {A = ℕ} 136 k 0 0 (omega arith)) (lit≤ tt))
-    (λ k i j. getD-replicate {A = ℕ} 136 k 0 0 j))
+    (λ k i. rw (getD-replicate {A = ℕ} (mostCells * processes) k 0 0 (omega arith)) (lit≤ tt))
+    (λ k i j. getD-replicate {A = ℕ} (mostCells * processes) k 0 0 j))
 
 -- A cell that exists is one of the river's, and a substance that exists one of the 18.
 pub cell-bound : (r : River) (cell : ℕ) → cellExists r cell ≡ true → (1 ≤ cell) × (cell ≤ r .cells)

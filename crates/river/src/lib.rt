@@ -10,6 +10,7 @@ use crate::cells::letter;
 use crate::check::carries_fit;
 use crate::check::cells_fit;
 use numeric::both;
+use stoichiometry::PROCESSES;
 use stoichiometry::SUBSTANCES;
 
 mod amounts;
@@ -18,10 +19,10 @@ mod check;
 
 pub const CELLS: usize = 8;
 
-// CELLS cells of 18 amounts, and of 17 carries.
-pub const AMOUNTS: usize = 144;
+// The amounts and the carries of all cells.
+pub const AMOUNTS: usize = CELLS * SUBSTANCES;
 
-pub const CARRIES: usize = 136;
+pub const CARRIES: usize = CELLS * PROCESSES;
 
 // A train of cells. Amount s of cell c, both counted from 0, stands at c * 18 + s: organics in µg, the others in
 // grains, per cubic metre. Carry p of cell c stands at c * 17 + p: millionths of a batch.

@@ -22,7 +22,7 @@ use Rattle.numeric.proofs.Fitting.{Bounded, all, _&_, bound, abs-by}
 use Rattle.numeric.proofs.TableLaws.{Each, each-at, AtMost, done, _also_, at-most-at, tab-length, getD-tab}
 use Rattle.stoichiometry.specs.declared.Fractions.{Fractions}
 use Rattle.stoichiometry.specs.declared.Set.{Set}
-use Rattle.stoichiometry.specs.Substances.{Organic, fractionsOf}
+use Rattle.stoichiometry.specs.Substances.{Organic, fractionsOf, substances}
 use Rattle.stoichiometry.specs.Parameters.{fractionsWrong, figuresWrong}
 use Rattle.stoichiometry.specs.Rows.{processes, Change, _by_, weighted, Process, noProcess, processesOf}
 use Rattle.stoichiometry.specs.Rows.{processAt, rowEntry, rowsOf}
@@ -173,8 +173,8 @@ pub rows-bound : (set : Set) → fractionsWrong set ≡ false → figuresWrong s
     → natAbs (getD (rowsOf set) k (pos 0)) ≤ 2500000000000
 unfolding rowsOf
 rows-bound set e f =
-    let entry : ℕ → ℤ = λ k. rowEntry set (k / 18) (k % 18) in
-    getD-bound natAbs 2500000000000 (tab 306 entry) (pos 0) (lit≤ tt)
+    let entry : ℕ → ℤ = λ k. rowEntry set (k / substances) (k % substances) in
+    getD-bound natAbs 2500000000000 (tab (processes * substances) entry) (pos 0) (lit≤ tt)
     (λ k h.
-    let at : k < 306 = rw tab-length at h in
-    rw (getD-tab 306 entry k (pos 0)) (entry-bound set (ranged set e f) (k / 18) (k % 18) (omega arith)))
+    let at : k < processes * substances = rw tab-length at h in
+    rw (getD-tab (processes * substances) entry k (pos 0)) (entry-bound set (ranged set e f) (k / substances) (k % substances) (omega arith)))

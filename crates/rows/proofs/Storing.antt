@@ -12,7 +12,7 @@ use lib.IntN.{ℤ, pos, natAbs}
 use Rattle.numeric.specs.Table.{run}
 use Rattle.numeric.proofs.Filling.{run-none, run-more, fill-none, fill-run, fill-done}
 use Rattle.stoichiometry.specs.declared.Set.{Set}
-use Rattle.stoichiometry.specs.Substances.{organics, xi}
+use Rattle.stoichiometry.specs.Substances.{organics, xi, substances}
 use Rattle.stoichiometry.specs.Rows.{processes, rowEntry, rowsOf}
 use Rattle.rows.specs.declared.row.Released.{Released}
 use Rattle.rows.specs.declared.row.Kind.{Kind}
@@ -76,19 +76,19 @@ pub one-more : (set : Set) → Ranged set → (p n : ℕ) → p + n < processes
     → Stored set p (n + 1) before es-before after es-after
 unfolding rowsFrom oxygenFrom rowStored
 one-more set g p n h {before} {es-before} i line d el ed er eo =
-    let place : (p + n) * 18 ≡ p * 18 + n * 18 = omega arith in
-    let more : (n + 1) * 18 ≡ n * 18 + 18 = omega arith in
+    let place : (p + n) * substances ≡ p * substances + n * substances = omega arith in
+    let more : (n + 1) * substances ≡ n * substances + substances = omega arith in
     record {
-      rows = er ∙ rw (place, more, el, ed, i .rows) (run-append before (p * 18) (n * 18) 18 _ _ at-place);
+      rows = er ∙ rw (place, more, el, ed, i .rows) (run-append before (p * substances) (n * substances) substances _ _ at-place);
       oxygen = eo ∙ run-more es-before p n _ _ _ (i .oxygen) (rw ed (coded-oxygen set g (p + n) h));
     }
   where
-    at-place : (s : ℕ) → s < 18
+    at-place : (s : ℕ) → s < substances
         → getD (rowList (lineAt set (p + n)) (codedOthers set (p + n))) s (pos 0)
-        ≡ rowEntry set ((p * 18 + (n * 18 + s)) / 18) ((p * 18 + (n * 18 + s)) % 18)
+        ≡ rowEntry set ((p * substances + (n * substances + s)) / substances) ((p * substances + (n * substances + s)) % substances)
     at-place s l =
-        let row : (p * 18 + (n * 18 + s)) / 18 ≡ p + n = omega arith in
-        let column : (p * 18 + (n * 18 + s)) % 18 ≡ s = omega arith in
+        let row : (p * substances + (n * substances + s)) / substances ≡ p + n = omega arith in
+        let column : (p * substances + (n * substances + s)) % substances ≡ s = omega arith in
         rw (row, column) (coded-entry set g (p + n) h s)
 
 -- Rows after rows.
@@ -96,20 +96,20 @@ pub then-stored : (set : Set) (p n m : ℕ) {a ea b eb c ec : List ℤ}
     → Stored set p n a ea b eb → Stored set (p + n) m b eb c ec → Stored set p (n + m) a ea c ec
 unfolding rowsFrom oxygenFrom
 then-stored set p n m {a} {ea} first second =
-    let place : (p + n) * 18 ≡ p * 18 + n * 18 = omega arith in
-    let both : (n + m) * 18 ≡ n * 18 + m * 18 = omega arith in
+    let place : (p + n) * substances ≡ p * substances + n * substances = omega arith in
+    let both : (n + m) * substances ≡ n * substances + m * substances = omega arith in
     record {
-      rows = second .rows ∙ rw (place, both, first .rows) (run-append a (p * 18) (n * 18) (m * 18) _ _ (λ s l. rw add-assoc));
+      rows = second .rows ∙ rw (place, both, first .rows) (run-append a (p * substances) (n * substances) (m * substances) _ _ (λ s l. rw add-assoc));
       oxygen = second .oxygen ∙ rw (first .oxygen) (run-append ea p n m _ _ (λ s l. rw add-assoc));
     }
 
 -- The rows and the E's of all processes, whatever was there.
-pub all-rows : (set : Set) (entries : List ℤ) → length entries ≡ 306 → rowsFrom set 0 17 entries ≡ rowsOf set
+pub all-rows : (set : Set) (entries : List ℤ) → length entries ≡ processes * substances → rowsFrom set 0 processes entries ≡ rowsOf set
 unfolding rowsFrom rowsOf
 all-rows set entries e =
-    fill-done 306 306 _ _ (fill-run 306 0 306 _ _ entries (fill-none 306 _ entries e) (lit≤ tt) (λ s l. refl)) (lit≤ tt)
+    fill-done (processes * substances) (processes * substances) _ _ (fill-run (processes * substances) 0 (processes * substances) _ _ entries (fill-none (processes * substances) _ entries e) (lit≤ tt) (λ s l. refl)) (lit≤ tt)
 
-pub all-oxygen : (set : Set) (es : List ℤ) → length es ≡ 17 → oxygenFrom set 0 17 es ≡ oxygenOf set
+pub all-oxygen : (set : Set) (es : List ℤ) → length es ≡ processes → oxygenFrom set 0 processes es ≡ oxygenOf set
 unfolding oxygenFrom oxygenOf
 all-oxygen set es e =
-    fill-done 17 17 _ _ (fill-run 17 0 17 _ _ es (fill-none 17 _ es e) (lit≤ tt) (λ s l. refl)) (lit≤ tt)
+    fill-done processes processes _ _ (fill-run processes 0 processes _ _ es (fill-none processes _ es e) (lit≤ tt) (λ s l. refl)) (lit≤ tt)

@@ -17,7 +17,7 @@ use Rattle.rows.specs.declared.row.Kind.{Kind}
 use Rattle.rows.specs.declared.row.Others.{Others}
 use Rattle.numeric.specs.Check.{every}
 use Rattle.numeric.specs.Table.{tab, run}
-use Rattle.stoichiometry.specs.Substances.{Organic, organics, xi, fractionsOf}
+use Rattle.stoichiometry.specs.Substances.{Organic, organics, xi, fractionsOf, substances}
 use Rattle.stoichiometry.specs.Rows.{processes, processAt, oxygenChange, rowEntry}
 
 -- One line of changes for a process: SS SI XH XN1 XN2 XALG XS XI.
@@ -228,10 +228,10 @@ codedOthers set p = othersFrom (codedReleased set p) (kindAt (kindsOf set) p)
 
 -- All entries with the row of process p stored; with the rows of n processes from p on; the E's likewise.
 unfoldable pub rowStored : ℕ → List ℤ → Others → List ℤ → List ℤ
-rowStored p line d entries = run entries (p * 18) 18 (λ s. getD (rowList line d) s (pos 0))
+rowStored p line d entries = run entries (p * substances) substances (λ s. getD (rowList line d) s (pos 0))
 
 unfoldable pub rowsFrom : Set → ℕ → ℕ → List ℤ → List ℤ
-rowsFrom set p n entries = run entries (p * 18) (n * 18) (λ s. rowEntry set ((p * 18 + s) / 18) ((p * 18 + s) % 18))
+rowsFrom set p n entries = run entries (p * substances) (n * substances) (λ s. rowEntry set ((p * substances + s) / substances) ((p * substances + s) % substances))
 
 unfoldable pub oxygenFrom : Set → ℕ → ℕ → List ℤ → List ℤ
 oxygenFrom set p n oxygen = run oxygen p n (λ s. oxygenChange set (processAt set (p + s)))
@@ -243,9 +243,9 @@ oxygenOf set = tab processes (λ p. oxygenChange set (processAt set p))
 -- Check 3 on the rows and the E's that the code made.
 unfoldable pub askedOf : List ℤ → List ℤ → ℕ → ℕ → Bool
 askedOf entries oxygen p asked =
-    let x : ℕ → ℤ = λ s. getD entries (p * 18 + s) (pos 0) in
+    let x : ℕ → ℤ = λ s. getD entries (p * substances + s) (pos 0) in
     cond (eqb asked 1) (ltZ (getD oxygen p (pos 0)) (pos 0))
     (cond (eqb asked 2) (leZ (pos 0) (x 2) && leZ (pos 0) (x 5) && leZ (pos 0) (x 6) && leZ (pos 0) (x 7)) true)
 
 unfoldable pub wrongOf : List ℤ → List ℤ → Bool
-wrongOf entries oxygen = not (every 17 (λ p. askedOf entries oxygen p (getD askedTable p 0)))
+wrongOf entries oxygen = not (every processes (λ p. askedOf entries oxygen p (getD askedTable p 0)))

@@ -3,6 +3,7 @@ ghost use mathlib.Core.Path.{_≡_};
 ghost use Prim.Native.Nat.{_<_};
 ghost use lib.IntN.{pos};
 ghost use lib.Signed.{leZ};
+ghost use Rattle.stoichiometry.specs.Rows.{processes};
 ghost use Rattle.rows.specs.Code.{askedOf, wrongOf};
 use numeric::both;
 use stoichiometry::ENTRIES;
@@ -20,7 +21,7 @@ fn not_taken_up(entry: i64) -> bool
 
 // The process at p has what check 3 asks of it.
 fn asked_met(entries: &[i64; ENTRIES], oxygen: &[i64; PROCESSES], p: usize, asked: u8) -> bool
-    requires { ⌜ p < 17 ⌝ }
+    requires { ⌜ p < processes ⌝ }
     ensures { λ r. ⌜ r ≡ askedOf (now (entries .entry)) (now (oxygen .entry)) p asked ⌝ }
 {
     let b = p * SUBSTANCES;

@@ -1,10 +1,12 @@
 // The 17 processes, one after the other: the organics of each with their changes, what it does besides its closure (the
 // numbers of row::Kind, in its order), and its row.
 ghost use mathlib.Core.Path.{_≡_};
-ghost use Prim.Native.Nat.{_+_, _≤_, _<_};
+ghost use Prim.Native.Nat.{_+_, _*_, _≤_, _<_};
 ghost use lib.ListN.{getD, set};
 ghost use lib.IntN.{pos};
 ghost use Rattle.numeric.specs.Table.{run};
+ghost use Rattle.stoichiometry.specs.Rows.{processes};
+ghost use Rattle.stoichiometry.specs.Substances.{substances};
 ghost use Rattle.rows.specs.Code.{Ranged, organicLine, rowStored, rowsFrom, oxygenFrom};
 use crate::figure::excess_of;
 use crate::figure::wide;
@@ -18,8 +20,8 @@ use stoichiometry::SUBSTANCES;
 use stoichiometry::Set;
 
 fn copy_row(entries: &mut [i64; ENTRIES], at: usize, row: &[i64; SUBSTANCES])
-    requires { ⌜ at + 18 ≤ 306 ⌝ }
-    ensures { λ r. ⌜ now (entries .exit) ≡ run (now (entries .entry)) at 18 (λ s. getD (now (row .entry)) s (pos 0)) ⌝ }
+    requires { ⌜ at + substances ≤ processes * substances ⌝ }
+    ensures { λ r. ⌜ now (entries .exit) ≡ run (now (entries .entry)) at substances (λ s. getD (now (row .entry)) s (pos 0)) ⌝ }
 {
     let mut s = 0;
     while s < SUBSTANCES {
@@ -42,7 +44,7 @@ fn put(
     xs: i64,
     xi: i64,
 )
-    requires { ⌜ p < 17 ⌝ }
+    requires { ⌜ p < processes ⌝ }
     ensures { λ r. ⌜ now (entries .exit) ≡ rowStored p (organicLine ss xh xn1 xn2 xalg xs xi) d (now (entries .entry)) ⌝ }
     ensures { λ r. ⌜ now (oxygen .exit) ≡ set (now (oxygen .entry)) p (d .e) ⌝ }
 {
@@ -153,8 +155,8 @@ fn rest(set: Set, entries: &mut [i64; ENTRIES], oxygen: &mut [i64; PROCESSES])
 // All rows of a set, and E of each process.
 pub(crate) fn fill_rows(set: Set, entries: &mut [i64; ENTRIES], oxygen: &mut [i64; PROCESSES])
     requires { ⌜ Ranged set ⌝ }
-    ensures { λ r. ⌜ now (entries .exit) ≡ rowsFrom set 0 17 (now (entries .entry)) ⌝ }
-    ensures { λ r. ⌜ now (oxygen .exit) ≡ oxygenFrom set 0 17 (now (oxygen .entry)) ⌝ }
+    ensures { λ r. ⌜ now (entries .exit) ≡ rowsFrom set 0 processes (now (entries .entry)) ⌝ }
+    ensures { λ r. ⌜ now (oxygen .exit) ≡ oxygenFrom set 0 processes (now (oxygen .entry)) ⌝ }
 {
     heterotrophs(set, entries, oxygen);
     nitrifiers(set, entries, oxygen);

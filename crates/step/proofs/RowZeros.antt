@@ -13,14 +13,15 @@ use lib.ListN.{getD, replicate, getD-replicate}
 use Rattle.numeric.specs.Table.{tab}
 use Rattle.numeric.proofs.TableLaws.{getD-tab, Each, each-at}
 use Rattle.stoichiometry.specs.declared.Set.{Set}
-use Rattle.stoichiometry.specs.Rows.{Process, Acceptor, oxygen, nitrateToNitrite, nitriteToN2, nitrateToN2, entry, oxygenChange, row, processesOf, processAt, rowEntry, rowsOf}
+use Rattle.stoichiometry.specs.Rows.{Process, Acceptor, oxygen, nitrateToNitrite, nitriteToN2, nitrateToN2, entry, oxygenChange, row, processesOf, processAt, rowEntry, rowsOf, processes}
 use Rattle.stoichiometry.proofs.Balance.{getD-rows}
 use Rattle.stoichiometry.proofs.Exact.{acceptor-no-o2}
+use Rattle.stoichiometry.specs.Substances.{substances}
 use Rattle.step.specs.Stepping.{digit, changing, mayChange, Entries, addedFrom}
 
 -- The entries of the substance at place s in the rows of the processes that do not change it, by the number m: zeros.
 Column : Set → ℕ → ℕ → Type 0
-Column set s m = tab 17 (λ p. cond (digit m p) (pos 0) (rowEntry set p s)) ≡ replicate 17 (pos 0)
+Column set s m = tab processes (λ p. cond (digit m p) (pos 0) (rowEntry set p s)) ≡ replicate processes (pos 0)
 
 -- NH4: with nitrogen as nitrate or nitrite, what the closure gives is taken away again.
 column-nh4 : (set : Set) → Column set 2 30437
@@ -51,15 +52,15 @@ unfolding Column tab digit rowEntry row entry oxygenChange processAt processesOf
 columns set = (refl, (refl, (column-nh4 set, (refl, (refl, (refl, (column-o2 set, (refl, (refl, (refl, (refl, (refl, (refl, (refl, (refl, (refl, (refl, (refl, tt))))))))))))))))))
 
 -- A process that does not change a substance has no entry for it.
-pub rows-none : (set : Set) (p s : ℕ) → p < 17 → s < 18 → mayChange p s ≡ false → getD (rowsOf set) (p * 18 + s) (pos 0) ≡ pos 0
+pub rows-none : (set : Set) (p s : ℕ) → p < processes → s < substances → mayChange p s ≡ false → getD (rowsOf set) (p * substances + s) (pos 0) ≡ pos 0
 unfolding Column
 rows-none set p s h l e =
     let column = rw zero-add at (each-at (Column set) 0 changing s 0 (columns set) l) in
-    let zero = sym (getD-tab 17 (λ q. cond (mayChange q s) (pos 0) (rowEntry set q s)) p (pos 0) h) ∙ ap (λ (t : List ℤ). getD t p (pos 0)) column ∙ getD-replicate 17 p (pos 0) (pos 0) h in
+    let zero = sym (getD-tab processes (λ q. cond (mayChange q s) (pos 0) (rowEntry set q s)) p (pos 0) h) ∙ ap (λ (t : List ℤ). getD t p (pos 0)) column ∙ getD-replicate processes p (pos 0) (pos 0) h in
     getD-rows set p s h l ∙ (rw e at zero)
 
 -- Such a process adds nothing.
-pub added-none : (whole : List ℤ) (at : ℕ) (entries : List ℤ) (s p : ℕ) → Entries entries → s < 18 → p < 17 → mayChange p s ≡ false
+pub added-none : (whole : List ℤ) (at : ℕ) (entries : List ℤ) (s p : ℕ) → Entries entries → s < substances → p < processes → mayChange p s ≡ false
     → addedFrom whole at entries s p ≡ pos 0
 added-none whole at entries s p e l h none =
     ap (λ (z : ℤ). getD whole (at + p) (pos 0) *ℤ z) (e .none p s h l none) ∙ *ℤ-zero (getD whole (at + p) (pos 0))

@@ -9,16 +9,19 @@ use lib.IntN.{ℤ, pos, natAbs, _+ℤ_, +ℤ-assoc}
 use Rattle.numeric.specs.Sum.{sum}
 use Rattle.numeric.proofs.Bounds.{abs-add, abs-mul-le}
 use Rattle.numeric.proofs.SumLaws.{sum-more, sum-bound}
+use Rattle.stoichiometry.specs.Rows.{processes}
+use Rattle.stoichiometry.specs.Substances.{substances}
+use Rattle.river.specs.Rivers.{mostCells}
 use Rattle.step.specs.Stepping.{Whole, Entries, addedFrom, newFrom}
 
-module _ (whole : List ℤ) (at : ℕ) (entries : List ℤ) (s : ℕ) (w : Whole whole) (e : Entries entries) (h : at + 17 ≤ 136) (l : s < 18) where
+module _ (whole : List ℤ) (at : ℕ) (entries : List ℤ) (s : ℕ) (w : Whole whole) (e : Entries entries) (h : at + processes ≤ mostCells * processes) (l : s < substances) where
   -- One process adds at most 2.5 × 10^17.
-  pub term-bound : (p : ℕ) → p < 17 → natAbs (addedFrom whole at entries s p) ≤ 250000000000000000
+  pub term-bound : (p : ℕ) → p < processes → natAbs (addedFrom whole at entries s p) ≤ 250000000000000000
   term-bound p k =
-      abs-mul-le (getD whole (at + p) (pos 0)) (getD entries (p * 18 + s) (pos 0)) (w .most (at + p) (omega arith)) (e .most (p * 18 + s) (omega arith))
+      abs-mul-le (getD whole (at + p) (pos 0)) (getD entries (p * substances + s) (pos 0)) (w .most (at + p) (omega arith)) (e .most (p * substances + s) (omega arith))
 
   -- An amount with what some processes add fits 64 bits.
-  pub total-bound : (start : ℤ) → natAbs start ≤ 1000000000000000000 → (p : ℕ) → p ≤ 17
+  pub total-bound : (start : ℤ) → natAbs start ≤ 1000000000000000000 → (p : ℕ) → p ≤ processes
       → natAbs (start +ℤ sum p (λ q. addedFrom whole at entries s q)) ≤ 5250000000000000000
   total-bound start b p k =
       omega (
@@ -36,12 +39,12 @@ module _ (whole : List ℤ) (at : ℕ) (entries : List ℤ) (s : ℕ) (w : Whole
       ∙ ap (λ (z : ℤ). start +ℤ z) (sym (sum-more p (λ q. addedFrom whole at entries s q)))
 
 -- The number at k of a cell, and beyond the cells.
-pub new-at : (n : ℕ) (amounts whole entries : List ℤ) (c s : ℕ) → c < n → s < 18
-    → getD amounts (c * 18 + s) (pos 0) +ℤ sum 17 (λ p. addedFrom whole (c * 17) entries s p) ≡ newFrom n amounts whole entries (c * 18 + s)
+pub new-at : (n : ℕ) (amounts whole entries : List ℤ) (c s : ℕ) → c < n → s < substances
+    → getD amounts (c * substances + s) (pos 0) +ℤ sum processes (λ p. addedFrom whole (c * processes) entries s p) ≡ newFrom n amounts whole entries (c * substances + s)
 new-at n amounts whole entries c s h l =
-    let cell : (c * 18 + s) / 18 ≡ c = omega arith in
-    let place : (c * 18 + s) % 18 ≡ s = omega arith in
+    let cell : (c * substances + s) / substances ≡ c = omega arith in
+    let place : (c * substances + s) % substances ≡ s = omega arith in
     rw (cell, place, lt-ltb c n h)
 
-pub new-beyond : (n : ℕ) (amounts whole entries : List ℤ) (k : ℕ) → n * 18 ≤ k → newFrom n amounts whole entries k ≡ pos 0
-new-beyond n amounts whole entries k h = rw (le-ltb (k / 18) n (omega arith))
+pub new-beyond : (n : ℕ) (amounts whole entries : List ℤ) (k : ℕ) → n * substances ≤ k → newFrom n amounts whole entries k ≡ pos 0
+new-beyond n amounts whole entries k h = rw (le-ltb (k / substances) n (omega arith))

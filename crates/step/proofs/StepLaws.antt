@@ -21,9 +21,10 @@ use Rattle.stoichiometry.specs.declared.Set.{Set}
 use Rattle.stoichiometry.specs.Parameters.{figuresWrong}
 use Rattle.stoichiometry.specs.Rows.{processes, rowEntry, rowsOf}
 use Rattle.stoichiometry.proofs.Balance.{getD-rows}
+use Rattle.stoichiometry.specs.Substances.{substances}
 use Rattle.kinetics.specs.declared.Conditions.{Conditions}
 use Rattle.river.specs.declared.River.{River}
-use Rattle.river.specs.Rivers.{amountAt, carryAt, riverWrong}
+use Rattle.river.specs.Rivers.{amountAt, carryAt, riverWrong, mostCells}
 use Rattle.river.proofs.Rivers.{river-cells, amount-fits-at, amount-bound, carry-bound}
 use Rattle.kinetics.specs.Conditions.{conditionsWrong}
 use Rattle.step.specs.Steps.{batches, newAmount, steppedAmounts, steppedCarries, batchesWrong}
@@ -37,89 +38,89 @@ module _ (set : Set) (given : Conditions) (r : River) (right : riverWrong r ≡ 
   most = river-cells r right .1
 
   whole : List ℤ
-  whole = tab 136 (wholeFrom set given (r .cells) (r .amounts) (r .carries))
+  whole = tab (mostCells * processes) (wholeFrom set given (r .cells) (r .amounts) (r .carries))
 
   -- The carries after.
-  pub rest-is : tab 136 (restFrom set given (r .cells) (r .amounts) (r .carries)) ≡ steppedCarries set given r
+  pub rest-is : tab (mostCells * processes) (restFrom set given (r .cells) (r .amounts) (r .carries)) ≡ steppedCarries set given r
   unfolding restFrom steppedCarries
   rest-is = refl
 
-  whole-in-cell : (c p : ℕ) → c < r .cells → p < 17
-      → getD whole (c * 17 + p) (pos 0) ≡ pos (batches set given (amountAt (r .amounts) c) (carryAt (r .carries) c) p)
+  whole-in-cell : (c p : ℕ) → c < r .cells → p < processes
+      → getD whole (c * processes + p) (pos 0) ≡ pos (batches set given (amountAt (r .amounts) c) (carryAt (r .carries) c) p)
   unfolding wholeFrom whole
   whole-in-cell c p h l =
-      let cell : (c * 17 + p) / 17 ≡ c = omega arith in
-      let place : (c * 17 + p) % 17 ≡ p = omega arith in
-      getD-tab 136 (wholeFrom set given (r .cells) (r .amounts) (r .carries)) (c * 17 + p) (pos 0) (omega (arith, most))
+      let cell : (c * processes + p) / processes ≡ c = omega arith in
+      let place : (c * processes + p) % processes ≡ p = omega arith in
+      getD-tab (mostCells * processes) (wholeFrom set given (r .cells) (r .amounts) (r .carries)) (c * processes + p) (pos 0) (omega (arith, most))
       ∙ rw (cell, place, lt-ltb c (r .cells) h)
 
-  cell-new : (c s : ℕ) → c < r .cells → s < 18
-      → getD (r .amounts) (c * 18 + s) (pos 0) +ℤ sum 17 (λ p. addedFrom whole (c * 17) (rowsOf set) s p)
+  cell-new : (c s : ℕ) → c < r .cells → s < substances
+      → getD (r .amounts) (c * substances + s) (pos 0) +ℤ sum processes (λ p. addedFrom whole (c * processes) (rowsOf set) s p)
       ≡ newAmount set given (amountAt (r .amounts) c) (carryAt (r .carries) c) s
   unfolding newAmount
   cell-new c s h l =
-      ap (λ (z : ℤ). getD (r .amounts) (c * 18 + s) (pos 0) +ℤ z)
-      (sum-eq 17 (λ p. addedFrom whole (c * 17) (rowsOf set) s p)
+      ap (λ (z : ℤ). getD (r .amounts) (c * substances + s) (pos 0) +ℤ z)
+      (sum-eq processes (λ p. addedFrom whole (c * processes) (rowsOf set) s p)
       (λ p. pos (batches set given (amountAt (r .amounts) c) (carryAt (r .carries) c) p) *ℤ rowEntry set p s)
       (λ p k. ap₂ _*ℤ_ (whole-in-cell c p h k) (getD-rows set p s k l)))
 
-  at-place : (k : ℕ) → k < 144 → Dec (k / 18 < r .cells)
+  at-place : (k : ℕ) → k < mostCells * substances → Dec (k / substances < r .cells)
       → newFrom (r .cells) (r .amounts) whole (rowsOf set) k
-      ≡ cond (ltb (k / 18) (r .cells)) (newAmount set given (amountAt (r .amounts) (k / 18)) (carryAt (r .carries) (k / 18)) (k % 18)) (pos 0)
+      ≡ cond (ltb (k / substances) (r .cells)) (newAmount set given (amountAt (r .amounts) (k / substances)) (carryAt (r .carries) (k / substances)) (k % substances)) (pos 0)
   at-place k h (yes l) =
-      let place : k / 18 * 18 + k % 18 ≡ k = omega arith in
-      rw (lt-ltb (k / 18) (r .cells) l)
-      (ap (λ (j : ℕ). getD (r .amounts) j (pos 0) +ℤ sum 17 (λ p. addedFrom whole (k / 18 * 17) (rowsOf set) (k % 18) p)) (sym place)
-      ∙ cell-new (k / 18) (k % 18) l (omega arith))
-  at-place k h (no g) = rw (le-ltb (k / 18) (r .cells) (omega arith))
+      let place : k / substances * substances + k % substances ≡ k = omega arith in
+      rw (lt-ltb (k / substances) (r .cells) l)
+      (ap (λ (j : ℕ). getD (r .amounts) j (pos 0) +ℤ sum processes (λ p. addedFrom whole (k / substances * processes) (rowsOf set) (k % substances) p)) (sym place)
+      ∙ cell-new (k / substances) (k % substances) l (omega arith))
+  at-place k h (no g) = rw (le-ltb (k / substances) (r .cells) (omega arith))
 
   -- The amounts after.
-  pub applied-is : appliedFrom (r .cells) (r .amounts) (tab 136 (wholeFrom set given (r .cells) (r .amounts) (r .carries))) (rowsOf set) ≡ steppedAmounts set given r
+  pub applied-is : appliedFrom (r .cells) (r .amounts) (tab (mostCells * processes) (wholeFrom set given (r .cells) (r .amounts) (r .carries))) (rowsOf set) ≡ steppedAmounts set given r
   unfolding appliedFrom steppedAmounts whole
-  applied-is = tab-eq 144 _ _ (λ k h. at-place k h (decLt (k / 18) (r .cells)))
+  applied-is = tab-eq (mostCells * substances) _ _ (λ k h. at-place k h (decLt (k / substances) (r .cells)))
 
   few : ℕ → ℕ → Bool
   few c p = leb (batches set given (amountAt (r .amounts) c) (carryAt (r .carries) c) p) 100000
 
   -- The test of the whole batches of process p of cell c.
   test : ℕ → ℕ → Bool
-  test c p = leZ (getD whole (c * 17 + p) (pos 0)) (pos 100000)
+  test c p = leZ (getD whole (c * processes + p) (pos 0)) (pos 100000)
 
   -- Check 7.
-  pub batches-fit-is : every (r .cells) (λ c. every 17 (λ p. leZ (getD (tab 136 (wholeFrom set given (r .cells) (r .amounts) (r .carries))) (c * 17 + p) (pos 0)) (pos 100000)))
+  pub batches-fit-is : every (r .cells) (λ c. every processes (λ p. leZ (getD (tab (mostCells * processes) (wholeFrom set given (r .cells) (r .amounts) (r .carries))) (c * processes + p) (pos 0)) (pos 100000)))
       ≡ every (r .cells) (λ c. every processes (λ p. leb (batches set given (amountAt (r .amounts) c) (carryAt (r .carries) c) p) 100000))
   unfolding few test whole
   batches-fit-is =
-      every-eq (r .cells) (λ c. every 17 (test c)) (λ c. every processes (few c))
-      (λ c h. every-eq 17 (test c) (few c) (λ p l. rw (whole-in-cell c p h l)))
+      every-eq (r .cells) (λ c. every processes (test c)) (λ c. every processes (few c))
+      (λ c h. every-eq processes (test c) (few c) (λ p l. rw (whole-in-cell c p h l)))
 
-  whole-value : (k : ℕ) → k < 136 → Dec (k / 17 < r .cells) → (b : ℕ) × (getD whole k (pos 0) ≡ pos b)
+  whole-value : (k : ℕ) → k < mostCells * processes → Dec (k / processes < r .cells) → (b : ℕ) × (getD whole k (pos 0) ≡ pos b)
   unfolding whole wholeFrom
   whole-value k h (yes l) = (
-    batches set given (amountAt (r .amounts) (k / 17)) (carryAt (r .carries) (k / 17)) (k % 17),
-    rw (getD-tab 136 (wholeFrom set given (r .cells) (r .amounts) (r .carries)) k (pos 0) h, lt-ltb (k / 17) (r .cells) l),
+    batches set given (amountAt (r .amounts) (k / processes)) (carryAt (r .carries) (k / processes)) (k % processes),
+    rw (getD-tab (mostCells * processes) (wholeFrom set given (r .cells) (r .amounts) (r .carries)) k (pos 0) h, lt-ltb (k / processes) (r .cells) l),
   )
   whole-value k h (no g) =
-      (0, rw (getD-tab 136 (wholeFrom set given (r .cells) (r .amounts) (r .carries)) k (pos 0) h, le-ltb (k / 17) (r .cells) (omega arith)))
+      (0, rw (getD-tab (mostCells * processes) (wholeFrom set given (r .cells) (r .amounts) (r .carries)) k (pos 0) h, le-ltb (k / processes) (r .cells) (omega arith)))
 
   -- Whole batches that passed check 7.
-  few-at : every (r .cells) (λ c. every 17 (test c)) ≡ true → (k : ℕ) → k < 136 → Dec (k / 17 < r .cells) → leZ (getD whole k (pos 0)) (pos 100000) ≡ true
+  few-at : every (r .cells) (λ c. every processes (test c)) ≡ true → (k : ℕ) → k < mostCells * processes → Dec (k / processes < r .cells) → leZ (getD whole k (pos 0)) (pos 100000) ≡ true
   unfolding test whole wholeFrom
   few-at e k h (yes l) =
-      let place : k / 17 * 17 + k % 17 ≡ k = omega arith in
-      rw place at (every-at 17 (k % 17) (test (k / 17)) (every-at (r .cells) (k / 17) (λ c. every 17 (test c)) e l) (omega arith))
+      let place : k / processes * processes + k % processes ≡ k = omega arith in
+      rw place at (every-at processes (k % processes) (test (k / processes)) (every-at (r .cells) (k / processes) (λ c. every processes (test c)) e l) (omega arith))
   few-at e k h (no g) =
-      rw (getD-tab 136 (wholeFrom set given (r .cells) (r .amounts) (r .carries)) k (pos 0) h, le-ltb (k / 17) (r .cells) (omega arith))
+      rw (getD-tab (mostCells * processes) (wholeFrom set given (r .cells) (r .amounts) (r .carries)) k (pos 0) h, le-ltb (k / processes) (r .cells) (omega arith))
 
-  pub whole-small : every (r .cells) (λ c. every 17 (λ p. leZ (getD (tab 136 (wholeFrom set given (r .cells) (r .amounts) (r .carries))) (c * 17 + p) (pos 0)) (pos 100000))) ≡ true
-      → Whole (tab 136 (wholeFrom set given (r .cells) (r .amounts) (r .carries)))
+  pub whole-small : every (r .cells) (λ c. every processes (λ p. leZ (getD (tab (mostCells * processes) (wholeFrom set given (r .cells) (r .amounts) (r .carries))) (c * processes + p) (pos 0)) (pos 100000))) ≡ true
+      → Whole (tab (mostCells * processes) (wholeFrom set given (r .cells) (r .amounts) (r .carries)))
   unfolding whole test
   whole-small e =
       record {
         most =
             λ k h.
-            let v = whole-value k h (decLt (k / 17) (r .cells)) in
-            let t = rw (v .1) at (few-at e k h (decLt (k / 17) (r .cells))) in
+            let v = whole-value k h (decLt (k / processes) (r .cells)) in
+            let t = rw (v .1) at (few-at e k h (decLt (k / processes) (r .cells))) in
             rw (v .1) (leb-true (v .0) 100000 t);
       }
 
@@ -140,13 +141,13 @@ module _ (set : Set) (given : Conditions) (r : River) (right : riverWrong r ≡ 
       }
 
   -- The same of the whole batches that the code made.
-  module _ (w : List ℤ) (made : w ≡ tab 136 (wholeFrom set given (r .cells) (r .amounts) (r .carries))) where
+  module _ (w : List ℤ) (made : w ≡ tab (mostCells * processes) (wholeFrom set given (r .cells) (r .amounts) (r .carries))) where
     -- Check 7.
-    pub made-number : (t : Bool) → t ≡ every (r .cells) (λ c. every 17 (λ p. leZ (getD w (c * 17 + p) (pos 0)) (pos 100000))) → batchesWrong set given r ≡ not t
+    pub made-number : (t : Bool) → t ≡ every (r .cells) (λ c. every processes (λ p. leZ (getD w (c * processes + p) (pos 0)) (pos 100000))) → batchesWrong set given r ≡ not t
     unfolding batchesWrong
     made-number t e = sym (ap not (rw made at e ∙ batches-fit-is))
 
-    pub made-small : every (r .cells) (λ c. every 17 (λ p. leZ (getD w (c * 17 + p) (pos 0)) (pos 100000))) ≡ true → Whole w
+    pub made-small : every (r .cells) (λ c. every processes (λ p. leZ (getD w (c * processes + p) (pos 0)) (pos 100000))) ≡ true → Whole w
     made-small e = rw made (whole-small (rw made at e))
 
     pub made-amounts : (entries out : List ℤ) → entries ≡ rowsOf set → out ≡ appliedFrom (r .cells) (r .amounts) w entries

@@ -36,31 +36,31 @@ module _ (set : Set) (given : Conditions) (n : ℕ) (entries amounts : List ℤ)
             (omega (arith, extents-bound set given (going .figures) (going .conditions) amounts c (cell-fits c h) p l));
       }
 
-module _ (set : Set) (given : Conditions) (n : ℕ) (amounts : List ℤ) (carries : List ℕ) (c s : ℕ) (h : c < n) (l : s < 17) where
-  carried-is : carriedFrom (extentsAt set given amounts c) carries (c * 17) s ≡ carried set given (amountAt amounts c) (λ p. getD carries (c * 17 + p) 0) s
+module _ (set : Set) (given : Conditions) (n : ℕ) (amounts : List ℤ) (carries : List ℕ) (c s : ℕ) (h : c < n) (l : s < processes) where
+  carried-is : carriedFrom (extentsAt set given amounts c) carries (c * processes) s ≡ carried set given (amountAt amounts c) (λ p. getD carries (c * processes + p) 0) s
   unfolding carried
   carried-is = rw (getD-tab processes (extentAt set given (amountAt amounts c)) s 0 l)
 
   -- What a cell's extents leave stands at its place.
-  pub whole-at : pos (carriedFrom (extentsAt set given amounts c) carries (c * 17) s / 1000000) ≡ wholeFrom set given n amounts carries (c * 17 + s)
+  pub whole-at : pos (carriedFrom (extentsAt set given amounts c) carries (c * processes) s / 1000000) ≡ wholeFrom set given n amounts carries (c * processes + s)
   unfolding wholeFrom batches
   whole-at =
-      let cell : (c * 17 + s) / 17 ≡ c = omega arith in
-      let place : (c * 17 + s) % 17 ≡ s = omega arith in
+      let cell : (c * processes + s) / processes ≡ c = omega arith in
+      let place : (c * processes + s) % processes ≡ s = omega arith in
       rw (carried-is, cell, place, lt-ltb c n h)
 
-  pub rest-at : carriedFrom (extentsAt set given amounts c) carries (c * 17) s % 1000000 ≡ restFrom set given n amounts carries (c * 17 + s)
+  pub rest-at : carriedFrom (extentsAt set given amounts c) carries (c * processes) s % 1000000 ≡ restFrom set given n amounts carries (c * processes + s)
   unfolding restFrom newCarry
   rest-at =
-      let cell : (c * 17 + s) / 17 ≡ c = omega arith in
-      let place : (c * 17 + s) % 17 ≡ s = omega arith in
+      let cell : (c * processes + s) / processes ≡ c = omega arith in
+      let place : (c * processes + s) % processes ≡ s = omega arith in
       rw (carried-is, cell, place, lt-ltb c n h)
 
-module _ (set : Set) (given : Conditions) (n : ℕ) (amounts : List ℤ) (carries : List ℕ) (k : ℕ) (h : n * 17 ≤ k) where
+module _ (set : Set) (given : Conditions) (n : ℕ) (amounts : List ℤ) (carries : List ℕ) (k : ℕ) (h : n * processes ≤ k) where
   pub whole-beyond : wholeFrom set given n amounts carries k ≡ pos 0
   unfolding wholeFrom
-  whole-beyond = rw (le-ltb (k / 17) n (omega arith))
+  whole-beyond = rw (le-ltb (k / processes) n (omega arith))
 
   pub rest-beyond : restFrom set given n amounts carries k ≡ 0
   unfolding restFrom
-  rest-beyond = rw (le-ltb (k / 17) n (omega arith))
+  rest-beyond = rw (le-ltb (k / processes) n (omega arith))

@@ -12,7 +12,7 @@ use Rattle.numeric.specs.Table.{tab}
 use Rattle.stoichiometry.specs.declared.Set.{Set}
 use Rattle.stoichiometry.specs.Substances.{substances}
 use Rattle.stoichiometry.specs.Parameters.{fractionsWrong, figuresWrong}
-use Rattle.stoichiometry.specs.Rows.{rowsOf}
+use Rattle.stoichiometry.specs.Rows.{rowsOf, processes}
 use Rattle.kinetics.specs.declared.Conditions.{Conditions}
 use Rattle.river.specs.declared.River.{River}
 use Rattle.river.specs.declared.Changed.{Changed}
@@ -37,20 +37,20 @@ mayChange p s = digit (changingOf s) p
 
 -- Extents of one cell, carries, whole batches that passed check 7, entries of rows, amounts of a river: none too large.
 pub record Extents (extents : List ℕ) : Type 0 where
-  pub most : (p : ℕ) → p < 17 → getD extents p 0 ≤ 4000000000000000
+  pub most : (p : ℕ) → p < processes → getD extents p 0 ≤ 4000000000000000
 
 pub record Carries (carries : List ℕ) : Type 0 where
-  pub most : (k : ℕ) → k < 136 → getD carries k 0 ≤ 999999
+  pub most : (k : ℕ) → k < mostCells * processes → getD carries k 0 ≤ 999999
 
 pub record Whole (whole : List ℤ) : Type 0 where
-  pub most : (k : ℕ) → k < 136 → natAbs (getD whole k (pos 0)) ≤ 100000
+  pub most : (k : ℕ) → k < mostCells * processes → natAbs (getD whole k (pos 0)) ≤ 100000
 
 pub record Entries (entries : List ℤ) : Type 0 where
-  pub most : (k : ℕ) → k < 306 → natAbs (getD entries k (pos 0)) ≤ 2500000000000
-  pub none : (p s : ℕ) → p < 17 → s < 18 → mayChange p s ≡ false → getD entries (p * 18 + s) (pos 0) ≡ pos 0
+  pub most : (k : ℕ) → k < processes * substances → natAbs (getD entries k (pos 0)) ≤ 2500000000000
+  pub none : (p s : ℕ) → p < processes → s < substances → mayChange p s ≡ false → getD entries (p * substances + s) (pos 0) ≡ pos 0
 
 pub record Amounts (amounts : List ℤ) : Type 0 where
-  pub most : (k : ℕ) → k < 144 → natAbs (getD amounts k (pos 0)) ≤ 1000000000000000000
+  pub most : (k : ℕ) → k < mostCells * substances → natAbs (getD amounts k (pos 0)) ≤ 1000000000000000000
 
 -- The carry of process p of a cell, whose carries stand from `at` on, with the extent added.
 abbrev pub carriedFrom : List ℕ → List ℕ → ℕ → ℕ → ℕ
@@ -58,26 +58,26 @@ carriedFrom extents carries at p = getD carries (at + p) 0 + getD extents p 0
 
 -- What process p adds to the substance at place s.
 abbrev pub addedFrom : List ℤ → ℕ → List ℤ → ℕ → ℕ → ℤ
-addedFrom whole at entries s p = getD whole (at + p) (pos 0) *ℤ getD entries (p * 18 + s) (pos 0)
+addedFrom whole at entries s p = getD whole (at + p) (pos 0) *ℤ getD entries (p * substances + s) (pos 0)
 
 -- The amount at k after, of n cells: the old amount and what all processes add; 0 beyond.
 abbrev pub newFrom : ℕ → List ℤ → List ℤ → List ℤ → ℕ → ℤ
 newFrom n amounts whole entries k =
-    cond (ltb (k / 18) n) (getD amounts k (pos 0) +ℤ sum 17 (λ p. addedFrom whole (k / 18 * 17) entries (k % 18) p)) (pos 0)
+    cond (ltb (k / substances) n) (getD amounts k (pos 0) +ℤ sum processes (λ p. addedFrom whole (k / substances * processes) entries (k % substances) p)) (pos 0)
 
 unfoldable pub appliedFrom : ℕ → List ℤ → List ℤ → List ℤ → List ℤ
-appliedFrom n amounts whole entries = tab 144 (newFrom n amounts whole entries)
+appliedFrom n amounts whole entries = tab (mostCells * substances) (newFrom n amounts whole entries)
 
 -- The whole batches at k, of n cells, and the carries after; 0 beyond.
 unfoldable pub wholeFrom : Set → Conditions → ℕ → List ℤ → List ℕ → ℕ → ℤ
 wholeFrom set given n amounts carries k =
-    let c = k / 17 in
-    cond (ltb c n) (pos (batches set given (amountAt amounts c) (carryAt carries c) (k % 17))) (pos 0)
+    let c = k / processes in
+    cond (ltb c n) (pos (batches set given (amountAt amounts c) (carryAt carries c) (k % processes))) (pos 0)
 
 unfoldable pub restFrom : Set → Conditions → ℕ → List ℤ → List ℕ → ℕ → ℕ
 restFrom set given n amounts carries k =
-    let c = k / 17 in
-    cond (ltb c n) (newCarry set given (amountAt amounts c) (carryAt carries c) (k % 17)) 0
+    let c = k / processes in
+    cond (ltb c n) (newCarry set given (amountAt amounts c) (carryAt carries c) (k % processes)) 0
 
 -- What the loop over the cells works on: n cells whose amounts and carries are in their bounds, the set's rows.
 pub record Going (set : Set) (given : Conditions) (n : ℕ) (entries : List ℤ) (amounts : List ℤ) (carries : List ℕ) : Type 0 where

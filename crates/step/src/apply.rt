@@ -5,6 +5,9 @@ ghost use lib.ListN.{getD, set, replicate};
 ghost use lib.IntN.{pos, natAbs, _+ℤ_};
 ghost use Rattle.numeric.specs.Sum.{sum};
 ghost use Rattle.numeric.specs.Table.{run};
+ghost use Rattle.stoichiometry.specs.Rows.{processes};
+ghost use Rattle.stoichiometry.specs.Substances.{substances};
+ghost use Rattle.river.specs.Rivers.{mostCells};
 ghost use Rattle.step.specs.Stepping.{changingOf, mayChange, Whole, Entries, Amounts, addedFrom, appliedFrom};
 use river::AMOUNTS;
 use river::CARRIES;
@@ -21,7 +24,7 @@ fn added_by(
     p: usize,
     changes: bool,
 ) -> i64
-    requires { ⌜ (at + 17 ≤ 136) × (s < 18) × (p < 17) × Whole (now whole) × Entries (now entries) × (changes ≡ mayChange p s) ⌝ }
+    requires { ⌜ (at + processes ≤ mostCells * processes) × (s < substances) × (p < processes) × Whole (now whole) × Entries (now entries) × (changes ≡ mayChange p s) ⌝ }
     ensures { λ r. ⌜ r ≡ addedFrom (now (whole .entry)) at (now (entries .entry)) s p ⌝ }
 {
     if changes {
@@ -41,8 +44,8 @@ fn added(
     s: usize,
     changing: u32,
 ) -> i64
-    requires { ⌜ (natAbs start ≤ 1000000000000000000) × (at + 17 ≤ 136) × (s < 18) × Whole (now whole) × Entries (now entries) × (changing ≡ changingOf s) ⌝ }
-    ensures { λ r. ⌜ r ≡ start +ℤ sum 17 (λ p. addedFrom (now (whole .entry)) at (now (entries .entry)) s p) ⌝ }
+    requires { ⌜ (natAbs start ≤ 1000000000000000000) × (at + processes ≤ mostCells * processes) × (s < substances) × Whole (now whole) × Entries (now entries) × (changing ≡ changingOf s) ⌝ }
+    ensures { λ r. ⌜ r ≡ start +ℤ sum processes (λ p. addedFrom (now (whole .entry)) at (now (entries .entry)) s p) ⌝ }
 {
     let mut total = start;
     let mut digits = changing;
@@ -65,8 +68,8 @@ fn apply_one(
     changing: u32,
     out: &mut [i64; AMOUNTS],
 )
-    requires { ⌜ (c < 8) × Amounts (now amounts) × Whole (now whole) × Entries (now entries) × (s < 18) × (changing ≡ changingOf s) ⌝ }
-    ensures { λ r. ⌜ now (out .exit) ≡ set (now (out .entry)) (c * 18 + s) (getD (now (amounts .entry)) (c * 18 + s) (pos 0) +ℤ sum 17 (λ p. addedFrom (now (whole .entry)) (c * 17) (now (entries .entry)) s p)) ⌝ }
+    requires { ⌜ (c < mostCells) × Amounts (now amounts) × Whole (now whole) × Entries (now entries) × (s < substances) × (changing ≡ changingOf s) ⌝ }
+    ensures { λ r. ⌜ now (out .exit) ≡ set (now (out .entry)) (c * substances + s) (getD (now (amounts .entry)) (c * substances + s) (pos 0) +ℤ sum processes (λ p. addedFrom (now (whole .entry)) (c * processes) (now (entries .entry)) s p)) ⌝ }
 {
     let k = c * SUBSTANCES + s;
     out[k] = added(amounts[k], whole, c * PROCESSES, entries, s, changing);
@@ -81,8 +84,8 @@ pub(crate) fn apply_cell(
     c: usize,
     out: &mut [i64; AMOUNTS],
 )
-    requires { ⌜ (c < 8) × Amounts (now amounts) × Whole (now whole) × Entries (now entries) ⌝ }
-    ensures { λ r. ⌜ now (out .exit) ≡ run (now (out .entry)) (c * 18) 18 (λ s. getD (now (amounts .entry)) (c * 18 + s) (pos 0) +ℤ sum 17 (λ p. addedFrom (now (whole .entry)) (c * 17) (now (entries .entry)) s p)) ⌝ }
+    requires { ⌜ (c < mostCells) × Amounts (now amounts) × Whole (now whole) × Entries (now entries) ⌝ }
+    ensures { λ r. ⌜ now (out .exit) ≡ run (now (out .entry)) (c * substances) substances (λ s. getD (now (amounts .entry)) (c * substances + s) (pos 0) +ℤ sum processes (λ p. addedFrom (now (whole .entry)) (c * processes) (now (entries .entry)) s p)) ⌝ }
 {
     apply_one(amounts, whole, entries, c, 0, 0b0_0100_0000_0001_1011, out);
     apply_one(amounts, whole, entries, c, 1, 0b0_0000_0000_0000_0000, out);
@@ -112,7 +115,7 @@ pub(crate) fn apply_cells(
     entries: &[i64; ENTRIES],
     out: &mut [i64; AMOUNTS],
 )
-    requires { ⌜ (n ≤ 8) × Amounts (now amounts) × Whole (now whole) × Entries (now entries) × (now out ≡ replicate 144 (pos 0)) ⌝ }
+    requires { ⌜ (n ≤ mostCells) × Amounts (now amounts) × Whole (now whole) × Entries (now entries) × (now out ≡ replicate (mostCells * substances) (pos 0)) ⌝ }
     ensures { λ r. ⌜ now (out .exit) ≡ appliedFrom n (now (amounts .entry)) (now (whole .entry)) (now (entries .entry)) ⌝ }
 {
     let mut c = 0;

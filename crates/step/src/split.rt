@@ -4,6 +4,8 @@ ghost use Prim.Native.Nat.{_+_, _*_, _/_, _%_, _≤_};
 ghost use lib.ListN.{getD};
 ghost use Rattle.numeric.specs.Check.{every};
 ghost use Rattle.numeric.specs.Table.{run};
+ghost use Rattle.stoichiometry.specs.Rows.{processes};
+ghost use Rattle.river.specs.Rivers.{mostCells};
 ghost use lib.IntN.{pos};
 ghost use lib.Signed.{leZ};
 ghost use Rattle.step.specs.Stepping.{carriedFrom, Extents, Carries};
@@ -23,9 +25,9 @@ pub(crate) fn split(
     whole: &mut [i64; CARRIES],
     rest: &mut [u32; CARRIES],
 )
-    requires { ⌜ (at + 17 ≤ 136) × Extents (now extents) × Carries (now carries) ⌝ }
-    ensures { λ r. ⌜ now (whole .exit) ≡ run (now (whole .entry)) at 17 (λ p. pos (carriedFrom (now (extents .entry)) (now (carries .entry)) at p / 1000000)) ⌝ }
-    ensures { λ r. ⌜ now (rest .exit) ≡ run (now (rest .entry)) at 17 (λ p. carriedFrom (now (extents .entry)) (now (carries .entry)) at p % 1000000) ⌝ }
+    requires { ⌜ (at + processes ≤ mostCells * processes) × Extents (now extents) × Carries (now carries) ⌝ }
+    ensures { λ r. ⌜ now (whole .exit) ≡ run (now (whole .entry)) at processes (λ p. pos (carriedFrom (now (extents .entry)) (now (carries .entry)) at p / 1000000)) ⌝ }
+    ensures { λ r. ⌜ now (rest .exit) ≡ run (now (rest .entry)) at processes (λ p. carriedFrom (now (extents .entry)) (now (carries .entry)) at p % 1000000) ⌝ }
 {
     let mut p = 0;
     while p < PROCESSES {
@@ -38,8 +40,8 @@ pub(crate) fn split(
 
 // No process of the cell whose batches stand from `at` on reaches more than 100,000 whole batches.
 fn cell_batches_fit(whole: &[i64; CARRIES], at: usize) -> bool
-    requires { ⌜ at + 17 ≤ 136 ⌝ }
-    ensures { λ r. ⌜ r ≡ every 17 (λ p. leZ (getD (now (whole .entry)) (at + p) (pos 0)) (pos 100000)) ⌝ }
+    requires { ⌜ at + processes ≤ mostCells * processes ⌝ }
+    ensures { λ r. ⌜ r ≡ every processes (λ p. leZ (getD (now (whole .entry)) (at + p) (pos 0)) (pos 100000)) ⌝ }
 {
     let mut p = 0;
     while p < PROCESSES {
@@ -54,8 +56,8 @@ fn cell_batches_fit(whole: &[i64; CARRIES], at: usize) -> bool
 
 // Check 7: no process of the n cells does.
 pub(crate) fn batches_fit(n: usize, whole: &[i64; CARRIES]) -> bool
-    requires { ⌜ n ≤ 8 ⌝ }
-    ensures { λ r. ⌜ r ≡ every n (λ c. every 17 (λ p. leZ (getD (now (whole .entry)) (c * 17 + p) (pos 0)) (pos 100000))) ⌝ }
+    requires { ⌜ n ≤ mostCells ⌝ }
+    ensures { λ r. ⌜ r ≡ every n (λ c. every processes (λ p. leZ (getD (now (whole .entry)) (c * processes + p) (pos 0)) (pos 100000))) ⌝ }
 {
     let mut c = 0;
     while c < n {

@@ -1,8 +1,12 @@
 // What a step does once its set, its river and its conditions have passed their checks.
 ghost use mathlib.Core.Path.{_≡_};
 ghost use mathlib.Core.Bool.{true, not};
+ghost use Prim.Native.Nat.{_*_};
 ghost use lib.IntN.{pos};
 ghost use lib.ListN.{replicate};
+ghost use Rattle.stoichiometry.specs.Rows.{processes};
+ghost use Rattle.stoichiometry.specs.Substances.{substances};
+ghost use Rattle.river.specs.Rivers.{mostCells};
 ghost use Rattle.step.specs.Steps.{batchesWrong, steppedAmounts, steppedCarries};
 ghost use Rattle.step.specs.Stepping.{Ready, riverWith, answerWith};
 use crate::apply::apply_cells;
@@ -34,7 +38,7 @@ pub(crate) fn step_cells<'a>(
     amounts: &mut [i64; AMOUNTS],
     rest: &mut [u32; CARRIES],
 ) -> bool
-    requires { ⌜ Ready set (riverWith cells (now before) (now carries)) given (now entries) × (now amounts ≡ replicate 144 (pos 0)) × (now rest ≡ replicate 136 0) ⌝ }
+    requires { ⌜ Ready set (riverWith cells (now before) (now carries)) given (now entries) × (now amounts ≡ replicate (mostCells * substances) (pos 0)) × (now rest ≡ replicate (mostCells * processes) 0) ⌝ }
     ensures { λ r. ⌜ batchesWrong set given (riverWith cells (now (before .entry)) (now (carries .entry))) ≡ not r ⌝ }
     ensures { λ r. ⌜ (r ≡ true → now (amounts .exit) ≡ steppedAmounts set given (riverWith cells (now (before .entry)) (now (carries .entry)))) ⌝ }
     ensures { λ r. ⌜ (r ≡ true → now (rest .exit) ≡ steppedCarries set given (riverWith cells (now (before .entry)) (now (carries .entry)))) ⌝ }

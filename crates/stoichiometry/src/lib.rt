@@ -14,8 +14,8 @@ pub const SUBSTANCES: usize = 18;
 
 pub const PROCESSES: usize = 17;
 
-// PROCESSES rows of SUBSTANCES entries.
-pub const ENTRIES: usize = 306;
+// The entries of all rows.
+pub const ENTRIES: usize = PROCESSES * SUBSTANCES;
 
 // Mass fractions of one organic, thousandths.
 pub struct Fractions {

@@ -1,9 +1,10 @@
 // The six totals of one cell: what each amount holds, added up by a list of weights for each total.
 ghost use mathlib.Core.Path.{_≡_};
-ghost use Prim.Native.Nat.{_+_, _<_, _≤_};
+ghost use Prim.Native.Nat.{_+_, _*_, _<_, _≤_};
 ghost use lib.IntN.{pos};
 ghost use lib.ListN.{getD};
-ghost use Rattle.stoichiometry.specs.Substances.{organicComposition};
+ghost use Rattle.stoichiometry.specs.Substances.{organicComposition, substances};
+ghost use Rattle.river.specs.Rivers.{mostCells};
 ghost use Rattle.totals.specs.TotalsCode.{parts, weightsOf, weightedTotal, totalsAt, refusedTotals, Addable, AllAddable};
 use river::AMOUNTS;
 use river::Totals;
@@ -89,7 +90,7 @@ fn weights(set: Set, t: usize) -> [i64; SUBSTANCES]
 
 // The sum of amount × weight over the cell that starts at `start`.
 fn weighted_total(amounts: &[i64; AMOUNTS], start: usize, weights: &[i64; SUBSTANCES]) -> i64
-    requires { ⌜ start + 18 ≤ 144 ⌝ }
+    requires { ⌜ start + substances ≤ mostCells * substances ⌝ }
     requires { ⌜ Addable (now amounts) start (now weights) ⌝ }
     ensures { λ r. ⌜ r ≡ weightedTotal (now (amounts .entry)) start (now (weights .entry)) ⌝ }
 {
@@ -105,7 +106,7 @@ fn weighted_total(amounts: &[i64; AMOUNTS], start: usize, weights: &[i64; SUBSTA
 // Total t of the cell that starts at `start`.
 fn total(set: Set, amounts: &[i64; AMOUNTS], start: usize, t: usize) -> i64
     requires { ⌜ t < 6 ⌝ }
-    requires { ⌜ start + 18 ≤ 144 ⌝ }
+    requires { ⌜ start + substances ≤ mostCells * substances ⌝ }
     requires { ⌜ AllAddable set (now amounts) start ⌝ }
     ensures { λ r. ⌜ r ≡ weightedTotal (now (amounts .entry)) start (weightsOf set t) ⌝ }
 {
@@ -114,7 +115,7 @@ fn total(set: Set, amounts: &[i64; AMOUNTS], start: usize, t: usize) -> i64
 }
 
 pub(crate) fn totals_at(set: Set, amounts: &[i64; AMOUNTS], start: usize) -> Totals
-    requires { ⌜ start + 18 ≤ 144 ⌝ }
+    requires { ⌜ start + substances ≤ mostCells * substances ⌝ }
     requires { ⌜ AllAddable set (now amounts) start ⌝ }
     ensures { λ r. ⌜ r ≡ totalsAt set (now (amounts .entry)) start ⌝ }
 {

@@ -3,6 +3,7 @@ use mathlib.Core.Path.{_≡_, sym, ap, _∙_}
 use Prim.Native.Nat.{ℕ, _+_, _-_, _*_, _≤_}
 use native.Mathlib.Omega.{arith}
 use lib.ListN.{length, take, drop}
+use Rattle.record.specs.Lines.{cellBytes}
 use Rattle.record_reading.specs.Reading.{cellNumber}
 use Rattle.record_reading.proofs.ReadAnswers.{lines-accepted, lines-none, cell-within}
 use borrow.Author.Needs.{needs}
@@ -13,7 +14,7 @@ number : (c : tie.Then1) → cellNumber (c .before .before .before .args .text .
 number c = sym (c .before .number-of-cell .ensures) ∙ c .if1 .taken
 
 within : (c : tie.Then1)
-    → (1 ≤ c .before .before .before .args .cell) × ((c .before .before .before .args .cell - 1) * 945 + 945 ≤ length (c .before .before .before .args .text .now))
+    → (1 ≤ c .before .before .before .args .cell) × ((c .before .before .before .args .cell - 1) * cellBytes + cellBytes ≤ length (c .before .before .before .args .text .now))
 within c = let args = c .before .before .before .args in cell-within (args .text .now) (args .cell) (number c)
 
 number-of-cell-requires : tie.Need-number-of-cell-requires
@@ -43,8 +44,8 @@ part-result-end c = within c .1
 returns : tie.Need-returns
 returns c =
     let args = c .before .before .before .before .args in
-    let start = (args .cell - 1) * 945 in
-    let width : start + 945 - start ≡ 945 = omega arith in
+    let start = (args .cell - 1) * cellBytes in
+    let width : start + cellBytes - start ≡ cellBytes = omega arith in
     ap (λ (n : ℕ). take n (drop start (args .text .now))) width ∙ sym (lines-accepted (args .text .now) (args .cell) (number (c .before)))
 
 sub-result-2 : tie.Need-sub-result-2

@@ -11,6 +11,7 @@ use mir.Facts.{fits-below}
 use Rattle.river.specs.declared.River.{River}
 use Rattle.river.specs.Rivers.{riverWrong}
 use Rattle.river.proofs.Rivers.{wrong-tested}
+use Rattle.record.specs.Lines.{cellBytes}
 use Rattle.record_reading.specs.Reading.{cellsIn, linesRight, riverIn}
 use Rattle.record_reading.proofs.ReadAnswers.{answer-accepted, read-refused, sizeRight, size-known, size-refused, lines-refused, river-refused, record-right}
 use borrow.Author.Needs.{needs}
@@ -32,14 +33,14 @@ right-lines c = sym (c .before .read-cells .ensures .0) ∙ c .if2 .taken
 abbrev made : tie.Then2 → River
 made c =
     let read = c .before .read-cells .last in
-    record { cells = length (text-of c) / 945; amounts = read .1 .1 .0; carries = read .1 .1 .1 .0 }
+    record { cells = length (text-of c) / cellBytes; amounts = read .1 .1 .0; carries = read .1 .1 .1 .0 }
 
 river : (c : tie.Then2) → made c ≡ riverIn (text-of c)
 unfolding riverIn
 river c =
     let called = c .before in
     λ i. record {
-      cells = length (text-of c) / 945;
+      cells = length (text-of c) / cellBytes;
       amounts = called .read-cells .ensures .1 .0 (c .if2 .taken) i;
       carries = called .read-cells .ensures .1 .1 (c .if2 .taken) i;
     }

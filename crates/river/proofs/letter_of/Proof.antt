@@ -13,6 +13,7 @@ use Rattle.numeric.specs.Check.{firstHolding}
 use Rattle.numeric.proofs.Bounds.{fits-abs}
 use Rattle.numeric.proofs.CheckLaws.{leb-within}
 use Rattle.numeric.proofs.Machine.{kept}
+use Rattle.stoichiometry.specs.Substances.{substances}
 use Rattle.river.specs.Rivers.{amountAt, riverWrong, cellExists}
 use Rattle.river.specs.Cells.{letterOf, letterNumber, letterAnswer}
 use Rattle.river.proofs.Bounds.{netAt}
@@ -83,7 +84,7 @@ abbrev amount : tie.Then2 → ℕ → ℤ
 amount c s = amountAt (start c .args .t1 .amounts) (start c .args .cell - 1) s
 
 -- It is not negative, and the machine keeps it.
-held : (c : tie.Then2) (s : ℕ) → s < 18 → netAt s ≡ false → (pos 0 ≤ℤ amount c s) × (kept (amount c s) ≡ amount c s)
+held : (c : tie.Then2) (s : ℕ) → s < substances → netAt s ≡ false → (pos 0 ≤ℤ amount c s) × (kept (amount c s) ≡ amount c s)
 held c s h n =
     let below : start c .args .cell - 1 < start c .args .t1 .cells = omega (arith, exists c) in
     let bounds = level-amount (start c .args .t1) (right (c .before .before)) (start c .args .cell - 1) s below h n in

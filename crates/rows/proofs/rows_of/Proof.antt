@@ -1,5 +1,6 @@
 -- `rows::rows_of` meets its contract: each test is a check of the definition; the first that holds gives the refusal,
 -- and where none does the rows are those that were filled in. No assumptions.
+use Prim.Native.Nat.{_*_}
 use mathlib.Core.Bool.{false}
 use mathlib.Core.Path.{_≡_, sym, _∙_}
 use borrow.Author.Needs.{needs}
@@ -7,7 +8,7 @@ use lib.IntN.{pos}
 use lib.ListN.{length-replicate}
 use Rattle.stoichiometry.specs.declared.Set.{Set}
 use Rattle.stoichiometry.specs.Parameters.{fractionsWrong, figuresWrong}
-use Rattle.stoichiometry.specs.Rows.{rowsOf}
+use Rattle.stoichiometry.specs.Rows.{rowsOf, processes}
 use Rattle.stoichiometry.specs.Sets.{rowsWrong}
 use Rattle.rows.specs.Code.{oxygenOf}
 use Rattle.rows.specs.Answers.{rowsAnswer}
@@ -15,6 +16,7 @@ use Rattle.rows.proofs.Ranges.{ranged}
 use Rattle.rows.proofs.CheckThree.{wrong-of-made}
 use Rattle.rows.proofs.Storing.{all-rows, all-oxygen}
 use Rattle.stoichiometry.proofs.SetNumber.{number-one, number-two, number-three, number-zero}
+use Rattle.stoichiometry.specs.Substances.{substances}
 use Rattle.rows.proofs.rows_of.Statement.{statement}
 use Rattle.rows.proofs.rows_of.Tie as tie
 
@@ -37,10 +39,10 @@ figures-right c = sym (c .before .figures-wrong .ensures) ∙ c .if2 .left
 
 -- The rows and the E's that were filled in are the set's.
 rows-are : (c : tie.After-fill-rows) → c .fill-rows .last .1 .0 ≡ rowsOf (the-set (passed c))
-rows-are c = c .fill-rows .ensures .0 ∙ all-rows _ _ (length-replicate 306 (pos 0))
+rows-are c = c .fill-rows .ensures .0 ∙ all-rows _ _ (length-replicate (processes * substances) (pos 0))
 
 oxygen-is : (c : tie.After-fill-rows) → c .fill-rows .last .1 .1 .0 ≡ oxygenOf (the-set (passed c))
-oxygen-is c = c .fill-rows .ensures .1 ∙ all-oxygen _ _ (length-replicate 17 (pos 0))
+oxygen-is c = c .fill-rows .ensures .1 ∙ all-oxygen _ _ (length-replicate processes (pos 0))
 
 rows-tested : (c : tie.After-rows-wrong) → rowsWrong (the-set (passed (at-rows c))) ≡ c .rows-wrong .result
 rows-tested c = sym (c .rows-wrong .ensures ∙ wrong-of-made _ (rows-are (at-rows c)) (oxygen-is (at-rows c)))

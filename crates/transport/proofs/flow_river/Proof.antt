@@ -1,10 +1,12 @@
 -- `flow_river` meets its contract: it refuses with 4 or 6, the first check that holds; where neither does, 8 does
 -- not hold either, so the answer is the amounts after and what left. No assumptions.
+use Prim.Native.Nat.{_*_}
 use mathlib.Core.Bool.{false, not}
 use mathlib.Core.Path.{_≡_, sym, _∙_}
 use lib.Dec.{lit<}
 use lib.ListN.{length}
-use Rattle.river.specs.Rivers.{riverWrong}
+use Rattle.stoichiometry.specs.Substances.{substances}
+use Rattle.river.specs.Rivers.{riverWrong, mostCells}
 use Rattle.river.proofs.Rivers.{wrong-tested, river-cells}
 use Rattle.transport.proofs.FlowLaws.{flow-number-river, flow-number-part, flow-number-accepted, flow-refused, flow-accepted}
 use Rattle.transport.proofs.FlowLists.{river-small, left-small}
@@ -21,7 +23,7 @@ wrong c = wrong-tested (begun c .args .river) _ (c .river-right .ensures)
 right : (c : tie.Else1) → riverWrong (begun (c .before) .args .river) ≡ false
 right c = wrong (c .before) ∙ c .if1 .left
 
-long : (c : tie.Start) → length (c .args .river .amounts) ≡ 144
+long : (c : tie.Start) → length (c .args .river .amounts) ≡ mostCells * substances
 long c = search needs
 
 river-right-requires : tie.Need-river-right-requires

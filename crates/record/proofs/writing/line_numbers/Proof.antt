@@ -10,12 +10,13 @@ use Rattle.record.specs.Stages.{lineNumbers}
 use Rattle.record.proofs.Written.{numbers-start, numbers-turn, numbers-written}
 use Rattle.record.proofs.writing.line_numbers.Statement.{statement}
 use Rattle.record.proofs.writing.line_numbers.Tie as tie
+use Rattle.record.specs.Lines.{lines}
 
 abbrev Inv-loop : tie.InvT-loop
-Inv-loop numbers₀ k₀ numbers k = (k ≤ 35) × (length numbers ≡ 70) × (numbers ≡ put numbers₀ 0 (lineNumbers k))
+Inv-loop numbers₀ k₀ numbers k = (k ≤ lines) × (length numbers ≡ 70) × (numbers ≡ put numbers₀ 0 (lineNumbers k))
 
 abbrev μ-loop : tie.MeasureT-loop
-μ-loop numbers₀ k₀ numbers k = 35 - k
+μ-loop numbers₀ k₀ numbers k = lines - k
 
 loop-holds : tie.Need-loop-holds Inv-loop μ-loop
 loop-holds c = (omega arith, refl, numbers-start _)
@@ -51,7 +52,7 @@ loop-again c =
     )
 
 returns : tie.Need-returns Inv-loop μ-loop
-returns c = numbers-written _ (c .before .loop .numbers) 35 (c .before .loop .k) refl (omega arith) (c .before .loop .inv .2)
+returns c = numbers-written _ (c .before .loop .numbers) lines (c .before .loop .k) refl (omega arith) (c .before .loop .inv .2)
 
 pub line-numbers-spec : {M : Type 1} → statement M
 line-numbers-spec =

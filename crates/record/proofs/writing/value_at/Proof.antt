@@ -4,6 +4,7 @@ use mathlib.Core.Path.{sym, _∙_}
 use lib.ListN.{getD}
 use lib.IntN.{pos}
 use Rattle.numeric.proofs.Machine.{kept-is}
+use Rattle.stoichiometry.specs.Substances.{substances}
 use Rattle.record.proofs.LineLaws.{value-amount, value-carry}
 use borrow.Author.Needs.{needs}
 use Rattle.record.proofs.writing.value_at.Statement.{statement}
@@ -24,7 +25,7 @@ element-copy-out-result c = search needs
 returns : tie.Need-returns
 returns c =
     let args = c .before .before .args in
-    kept-is (getD (args .amounts .now) (args .c * 18 + args .k) (pos 0)) (c .result .given)
+    kept-is (getD (args .amounts .now) (args .c * substances + args .k) (pos 0)) (c .result .given)
     ∙ sym (value-amount (args .amounts .now) (args .carries .now) (args .c) (args .k) (c .before .if1 .taken))
 
 mul-wide : tie.Need-mul-wide

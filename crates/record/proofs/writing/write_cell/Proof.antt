@@ -8,17 +8,17 @@ use mir.Facts.{fits-below}
 use Rattle.text.specs.Writes.{put}
 use Rattle.text.proofs.WriteLaws.{put-length}
 use Rattle.numeric.proofs.Machine.{kept-is}
-use Rattle.record.specs.Lines.{line, cellText, valueOf}
+use Rattle.record.specs.Lines.{line, cellText, valueOf, lines, lineBytes, cellBytes}
 use Rattle.record.proofs.LineLaws.{cell-length}
 use Rattle.record.proofs.Written.{lines-start, line-turn}
 use Rattle.record.proofs.writing.write_cell.Statement.{statement}
 use Rattle.record.proofs.writing.write_cell.Tie as tie
 
 abbrev Inv-loop : tie.InvT-loop
-Inv-loop out₀ c numbers amounts carries start cell k₀ out k = (k ≤ 35) × (out ≡ put out₀ start (cellText k (valueOf amounts carries) c))
+Inv-loop out₀ c numbers amounts carries start cell k₀ out k = (k ≤ lines) × (out ≡ put out₀ start (cellText k (valueOf amounts carries) c))
 
 abbrev μ-loop : tie.MeasureT-loop
-μ-loop out₀ c numbers amounts carries start cell k₀ out k = 35 - k
+μ-loop out₀ c numbers amounts carries start cell k₀ out k = lines - k
 
 kept : (c : tie.At-loop Inv-loop μ-loop) → length (c .loop .out) ≡ length (c .before .before .args .out .now)
 kept c =
@@ -26,7 +26,7 @@ kept c =
     let value = valueOf (args .amounts .now) (args .carries .now) in
     let long = cell-length (c .loop .k) value (args .c) in
     ap length (c .loop .inv .1)
-    ∙ put-length (args .out .now) (args .c * 945) (cellText (c .loop .k) value (args .c)) (omega arith)
+    ∙ put-length (args .out .now) (args .c * cellBytes) (cellText (c .loop .k) value (args .c)) (omega arith)
 
 mul-start : tie.Need-mul-start Inv-loop μ-loop
 mul-start c = omega arith
@@ -67,12 +67,12 @@ loop-again c =
     let at-loop = valued .before .before in
     let args = at-loop .before .before .args in
     let k = at-loop .loop .k in
-    let at = args .c * 945 in
+    let at = args .c * cellBytes in
     let value = kept-is (valued .value-at .result) (valued .value-at .ok) ∙ valued .value-at .ensures in (
       omega arith,
       line-turn (args .out .now) (at-loop .loop .out) (called .write-line .last .0) at k (args .c) (valueOf (args .amounts .now) (args .carries .now))
           (omega arith) (at-loop .loop .inv .1)
-          (called .write-line .ensures ∙ ap (λ (z : ℤ). put (at-loop .loop .out) (at + k * 27) (line (args .c + 1) (k + 1) z)) value),
+          (called .write-line .ensures ∙ ap (λ (z : ℤ). put (at-loop .loop .out) (at + k * lineBytes) (line (args .c + 1) (k + 1) z)) value),
     )
 
 same-length : tie.Need-same-length Inv-loop μ-loop
@@ -81,7 +81,7 @@ same-length c = kept (c .before)
 returns : tie.Need-returns Inv-loop μ-loop
 returns c =
     let at-loop = c .before in
-    let finished : at-loop .loop .k ≡ 35 = omega arith in
+    let finished : at-loop .loop .k ≡ lines = omega arith in
     rw (at-loop .loop .inv .1, finished)
 
 pub write-cell-spec : {M : Type 1} → statement M

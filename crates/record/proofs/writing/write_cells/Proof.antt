@@ -5,14 +5,14 @@ use native.Mathlib.Omega.{arith}
 use lib.ListN.{length}
 use Rattle.text.specs.Writes.{put}
 use Rattle.text.proofs.WriteLaws.{put-length}
-use Rattle.record.specs.Lines.{recordText, valueOf}
+use Rattle.record.specs.Lines.{recordText, valueOf, lines}
 use Rattle.record.proofs.LineLaws.{record-length}
 use Rattle.record.proofs.Written.{cells-start, cell-turn}
 use Rattle.record.proofs.writing.write_cells.Statement.{statement}
 use Rattle.record.proofs.writing.write_cells.Tie as tie
 
 abbrev Inv-loop : tie.InvT-loop
-Inv-loop out₀ n amounts carries numbers c₀ out c = (c ≤ n) × (out ≡ put out₀ 0 (recordText c 35 (valueOf amounts carries)))
+Inv-loop out₀ n amounts carries numbers c₀ out c = (c ≤ n) × (out ≡ put out₀ 0 (recordText c lines (valueOf amounts carries)))
 
 abbrev μ-loop : tie.MeasureT-loop
 μ-loop out₀ n amounts carries numbers c₀ out c = n - c
@@ -21,8 +21,8 @@ kept : (c : tie.At-loop Inv-loop μ-loop) → length (c .loop .out) ≡ length (
 kept c =
     let args = c .before .before .before .args in
     let value = valueOf (args .amounts .now) (args .carries .now) in
-    let long = record-length (c .loop .c) 35 value in
-    ap length (c .loop .inv .1) ∙ put-length (args .out .now) 0 (recordText (c .loop .c) 35 value) (omega arith)
+    let long = record-length (c .loop .c) lines value in
+    ap length (c .loop .inv .1) ∙ put-length (args .out .now) 0 (recordText (c .loop .c) lines value) (omega arith)
 
 line-numbers-requires : tie.Need-line-numbers-requires Inv-loop μ-loop
 line-numbers-requires c κs = tt

@@ -5,6 +5,7 @@ use Rattle.record.proofs.Written.{front-written}
 use borrow.Author.Needs.{needs}
 use Rattle.record.proofs.writing.write_front.Statement.{statement}
 use Rattle.record.proofs.writing.write_front.Tie as tie
+use Rattle.record.specs.Lines.{lines}
 
 write-two-requires : tie.Need-write-two-requires
 write-two-requires c κs = search needs
@@ -44,7 +45,7 @@ returns c =
     let first = c .before .before .before .before in
     let start = first .before .before .before in
     let args = start .args in
-    front-written (args .line .now) (first .write-two .last .0) (args .numbers .now) (args .cell) 35 (args .k)
+    front-written (args .line .now) (first .write-two .last .0) (args .numbers .now) (args .cell) lines (args .k)
     (start .pre .1) (start .pre .0) (start .pre .2) (first .write-two .ensures)
 
 pub write-front-spec : {M : Type 1} → statement M

@@ -12,6 +12,7 @@ use Rattle.record.proofs.Written.{line-written, part-written}
 use borrow.Author.Needs.{needs}
 use Rattle.record.proofs.writing.write_line.Statement.{statement}
 use Rattle.record.proofs.writing.write_line.Tie as tie
+use Rattle.record.specs.Lines.{lineBytes}
 
 add-end : tie.Need-add-end
 add-end c = search needs
@@ -44,9 +45,9 @@ returns c =
     let start = front .before .before .before .before in
     let args = start .args in
     let l = args .out .now in
-    let part = take (args .at + 27 - args .at) (drop (args .at) l) in
-    let room : length part ≡ 27 = simp (length-take, length-drop) (omega arith) in
-    part-written l (set (value .write-decimal .last .0) 26 10) _ (args .at) 27 (line-length (args .cell) (args .k + 1) (args .value))
+    let part = take (args .at + lineBytes - args .at) (drop (args .at) l) in
+    let room : length part ≡ lineBytes = simp (length-take, length-drop) (omega arith) in
+    part-written l (set (value .write-decimal .last .0) 26 10) _ (args .at) lineBytes (line-length (args .cell) (args .k + 1) (args .value))
     (line-written part (front .write-front .last .0) (value .write-decimal .last .0) (args .cell) (args .k + 1) (args .value) room
     (front .write-front .ensures)
     (value .write-decimal .ensures ∙ ap (λ (z : ℤ). putWithin (front .write-front .last .0) 6 (decimal 20 z)) (toZ-ofZ (start .fits .value))))

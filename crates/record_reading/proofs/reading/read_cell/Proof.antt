@@ -16,8 +16,10 @@ use Rattle.numeric.proofs.Bounds.{fits-abs}
 use Rattle.numeric.proofs.CheckLaws.{every-none, every-more, every-fails}
 use Rattle.numeric.proofs.Filling.{run-none}
 use Rattle.numeric.proofs.Machine.{kept, result-is}
+use Rattle.stoichiometry.specs.Substances.{substances}
 use Rattle.text_reading.specs.declared.Number.{Number}
 use Rattle.text.specs.Blocks.{part}
+use Rattle.record.specs.Lines.{lines, lineBytes, cellBytes}
 use Rattle.record_reading.specs.Reading.{lineNumber, valueAt}
 use Rattle.record_reading.proofs.ReadCells.{value-on, amount-small, carry-range, amount-stored, amounts-kept, carry-stored, carries-kept}
 use Rattle.record_reading.proofs.reading.read_cell.Statement.{statement}
@@ -25,13 +27,13 @@ use Rattle.record_reading.proofs.reading.read_cell.Tie as tie
 
 abbrev Inv-loop : tie.InvT-loop
 Inv-loop text c amounts₀ carries₀ start amount carry cell k₀ amounts carries k =
-    (k ≤ 35)
+    (k ≤ lines)
     × (every k (λ q. valueAt text c q .ok) ≡ true)
-    × (amounts ≡ run amounts₀ amount (k - (k - 18)) (λ q. valueAt text c q .value))
-    × (carries ≡ run carries₀ carry (k - 18) (λ p. natAbs (valueAt text c (18 + p) .value)))
+    × (amounts ≡ run amounts₀ amount (k - (k - substances)) (λ q. valueAt text c q .value))
+    × (carries ≡ run carries₀ carry (k - substances) (λ p. natAbs (valueAt text c (substances + p) .value)))
 
 abbrev μ-loop : tie.MeasureT-loop
-μ-loop text c amounts₀ carries₀ start amount carry cell k₀ amounts carries k = 35 - k
+μ-loop text c amounts₀ carries₀ start amount carry cell k₀ amounts carries k = lines - k
 
 -- The turn in which a line is read, the value on its line, and that the call reads it.
 abbrev turnOf : tie.After-line-number Inv-loop μ-loop → tie.At-loop Inv-loop μ-loop
@@ -47,7 +49,7 @@ value c =
     let args = at-loop .before .before .args in
     let k = at-loop .loop .k in
     c .line-number .ensures
-    ∙ ap₂ (lineNumber (part (args .c * 945 + k * 27) 27 (args .text .now)) (args .c + 1) (k + 1))
+    ∙ ap₂ (lineNumber (part (args .c * cellBytes + k * lineBytes) lineBytes (args .text .now)) (args .c + 1) (k + 1))
     (result-is _ (at-lowest .lowest-on .ensures) (at-lowest .lowest-on .ok))
     (result-is _ (c .before .highest-on .ensures) (c .before .highest-on .ok))
     ∙ value-on (args .text .now) (args .c) k
@@ -98,7 +100,7 @@ returns c =
     let at-loop = in-loop .before in
     let args = at-loop .before .before .args in
     let wrong = ap (λ (n : Number). n .ok) (sym (value tested)) ∙ not-true _ (c .if1 .taken) in (
-      sym (every-fails 35 (at-loop .loop .k) (λ q. valueAt (args .text .now) (args .c) q .ok) (in-loop .loop-test .taken) wrong),
+      sym (every-fails lines (at-loop .loop .k) (λ q. valueAt (args .text .now) (args .c) q .ok) (in-loop .loop-test .taken) wrong),
       (λ h. absurd (false≢true h), λ h. absurd (false≢true h)),
     )
 
@@ -115,7 +117,7 @@ element-set-from-value c = omega arith
 right : (c : tie.Else1 Inv-loop μ-loop) → valueOn (turnOf (c .before .before)) .ok ≡ true
 right c = ap (λ (n : Number). n .ok) (sym (value (c .before .before))) ∙ not-false _ (c .if1 .left)
 
-amount-read : (c : tie.Else1 Inv-loop μ-loop) → turnOf (c .before .before) .loop .k < 18
+amount-read : (c : tie.Else1 Inv-loop μ-loop) → turnOf (c .before .before) .loop .k < substances
     → kept (c .before .before .line-number .result .value) ≡ valueOn (turnOf (c .before .before)) .value
 amount-read c h =
     let at-loop = turnOf (c .before .before) in
@@ -123,7 +125,7 @@ amount-read c h =
     let small = amount-small (args .text .now) (args .c) (at-loop .loop .k) h (right c) in
     ap (λ (n : Number). kept (n .value)) (value (c .before .before)) ∙ toZ-ofZ (fits-abs _ (omega (arith, small)))
 
-carry-read : (c : tie.Else1 Inv-loop μ-loop) → 18 ≤ turnOf (c .before .before) .loop .k
+carry-read : (c : tie.Else1 Inv-loop μ-loop) → substances ≤ turnOf (c .before .before) .loop .k
     → kept (c .before .before .line-number .result .value) ≡ valueOn (turnOf (c .before .before)) .value
 carry-read c h =
     let at-loop = turnOf (c .before .before) in
@@ -171,7 +173,7 @@ loop-again c =
     ))
     (λ w.
     let h = w .0 .left in
-    let line : 18 + (k - 18) ≡ k = omega arith in
+    let line : substances + (k - substances) ≡ k = omega arith in
     let stored = ap natAbs (carry-read left h) ∙ ap (λ (q : ℕ). natAbs (valueAt (args .text .now) (args .c) q .value)) (sym line) in (
       omega arith,
       every-more k _ (inv .1) (right left),
@@ -183,7 +185,7 @@ loop-again c =
 returns-2 : tie.Need-returns-2 Inv-loop μ-loop
 returns-2 c =
     let at-loop = c .before in
-    let finished : at-loop .loop .k ≡ 35 = omega arith in (
+    let finished : at-loop .loop .k ≡ lines = omega arith in (
       sym (rw finished at (at-loop .loop .inv .1)),
       (λ h. rw finished at (at-loop .loop .inv .2), λ h. rw finished at (at-loop .loop .inv .3)),
     )

@@ -9,6 +9,10 @@ use lib.IntN.{pos}
 use Rattle.numeric.specs.Check.{every}
 use Rattle.numeric.proofs.CheckLaws.{every-none, every-more, every-fails}
 use Rattle.numeric.proofs.Filling.{FilledThen, then-none, then-run, then-done}
+use Rattle.stoichiometry.specs.Rows.{processes}
+use Rattle.stoichiometry.specs.Substances.{substances}
+use Rattle.river.specs.Rivers.{mostCells}
+use Rattle.record.specs.Lines.{lines}
 use Rattle.record_reading.specs.Reading.{valueAt, linesRight, amountsIn, carriesIn}
 use Rattle.record_reading.proofs.ReadCells.{amountIn, carryIn, amount-in, amount-beyond, carry-in, carry-beyond}
 use Rattle.record_reading.proofs.reading.read_cells.Statement.{statement}
@@ -17,9 +21,9 @@ use Rattle.record_reading.proofs.reading.read_cells.Tie as tie
 abbrev Inv-loop : tie.InvT-loop
 Inv-loop text n amounts₀ carries₀ c₀ amounts carries c =
     (c ≤ n)
-    × (every c (λ d. every 35 (λ k. valueAt text d k .ok)) ≡ true)
-    × FilledThen 144 (c * 18) (amountIn n text) (pos 0) amounts
-    × FilledThen 136 (c * 17) (carryIn n text) 0 carries
+    × (every c (λ d. every lines (λ k. valueAt text d k .ok)) ≡ true)
+    × FilledThen (mostCells * substances) (c * substances) (amountIn n text) (pos 0) amounts
+    × FilledThen (mostCells * processes) (c * processes) (carryIn n text) 0 carries
 
 abbrev μ-loop : tie.MeasureT-loop
 μ-loop text n amounts₀ carries₀ c₀ amounts carries c = n - c
@@ -27,7 +31,7 @@ abbrev μ-loop : tie.MeasureT-loop
 loop-holds : tie.Need-loop-holds Inv-loop μ-loop
 loop-holds c =
     let start = c .before in
-    (omega arith, every-none _, rw (start .pre .1 .0) (then-none 144 _ (pos 0)), rw (start .pre .1 .1) (then-none 136 _ 0))
+    (omega arith, every-none _, rw (start .pre .1 .0) (then-none (mostCells * substances) _ (pos 0)), rw (start .pre .1 .1) (then-none (mostCells * processes) _ 0))
 
 read-cell-requires : tie.Need-read-cell-requires Inv-loop μ-loop
 read-cell-requires c κs = (omega arith, omega arith)
@@ -60,12 +64,12 @@ loop-again c =
     let below = in-loop .loop-test .taken in
     let read = called .read-cell .ensures in
     let right = not-false _ (c .if1 .left) in
-    let more-amounts : d * 18 + 18 ≡ (d + 1) * 18 = omega arith in
-    let more-carries : d * 17 + 17 ≡ (d + 1) * 17 = omega arith in (
+    let more-amounts : d * substances + substances ≡ (d + 1) * substances = omega arith in
+    let more-carries : d * processes + processes ≡ (d + 1) * processes = omega arith in (
       omega arith,
       every-more d _ (at-loop .loop .inv .1) (sym (read .0) ∙ right),
-      rw more-amounts at (then-run 144 (d * 18) 18 (amountIn n text) _ (pos 0) _ _ (at-loop .loop .inv .2) (omega arith) (λ k h. amount-in n text d k below h) (read .1 .0 right)),
-      rw more-carries at (then-run 136 (d * 17) 17 (carryIn n text) _ 0 _ _ (at-loop .loop .inv .3) (omega arith) (λ p h. carry-in n text d p below h) (read .1 .1 right)),
+      rw more-amounts at (then-run (mostCells * substances) (d * substances) substances (amountIn n text) _ (pos 0) _ _ (at-loop .loop .inv .2) (omega arith) (λ k h. amount-in n text d k below h) (read .1 .0 right)),
+      rw more-carries at (then-run (mostCells * processes) (d * processes) processes (carryIn n text) _ 0 _ _ (at-loop .loop .inv .3) (omega arith) (λ p h. carry-in n text d p below h) (read .1 .1 right)),
     )
 
 returns-2 : tie.Need-returns-2 Inv-loop μ-loop
@@ -78,8 +82,8 @@ returns-2 c =
     let finished : at-loop .loop .c ≡ n = omega arith in (
       sym (rw finished at (at-loop .loop .inv .1)),
       (
-        λ h. then-done 144 (at-loop .loop .c * 18) (amountIn n text) (pos 0) _ (at-loop .loop .inv .2) (λ i l _. amount-beyond n text i (rw finished at l)),
-        λ h. then-done 136 (at-loop .loop .c * 17) (carryIn n text) 0 _ (at-loop .loop .inv .3) (λ i l _. carry-beyond n text i (rw finished at l)),
+        λ h. then-done (mostCells * substances) (at-loop .loop .c * substances) (amountIn n text) (pos 0) _ (at-loop .loop .inv .2) (λ i l _. amount-beyond n text i (rw finished at l)),
+        λ h. then-done (mostCells * processes) (at-loop .loop .c * processes) (carryIn n text) 0 _ (at-loop .loop .inv .3) (λ i l _. carry-beyond n text i (rw finished at l)),
       ),
     )
 

@@ -5,13 +5,14 @@ use mathlib.Core.Path.{_≡_, sym, _∙_}
 use native.Mathlib.Omega.{arith}
 use Rattle.numeric.specs.Check.{every}
 use Rattle.numeric.proofs.CheckLaws.{every-none, every-more, every-fails}
+use Rattle.stoichiometry.specs.Substances.{substances}
 use Rattle.river.specs.Rivers.{amountFits, amountAt}
 use Rattle.river.proofs.amounts.first_cells_fit.Statement.{statement}
 use Rattle.river.proofs.amounts.first_cells_fit.Tie as tie
 
 abbrev Inv-loop : tie.InvT-loop
 Inv-loop n amounts c₀ c =
-    (c ≤ n) × (every c (λ (d : ℕ). every 18 (λ (s : ℕ). amountFits s (amountAt amounts d s))) ≡ true)
+    (c ≤ n) × (every c (λ (d : ℕ). every substances (λ (s : ℕ). amountFits s (amountAt amounts d s))) ≡ true)
 
 abbrev μ-loop : tie.MeasureT-loop
 μ-loop n amounts c₀ c = n - c

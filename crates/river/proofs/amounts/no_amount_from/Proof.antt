@@ -1,5 +1,5 @@
 -- `amounts::no_amount_from` meets its contract. The loop's invariant: the amounts passed are zeros. No assumptions.
-use Prim.Native.Nat.{ℕ, _≤_, _+_, _-_}
+use Prim.Native.Nat.{ℕ, _*_, _≤_, _+_, _-_}
 use mathlib.Core.Bool.{true}
 use mathlib.Core.Path.{_≡_, sym}
 use native.Mathlib.Omega.{arith}
@@ -9,16 +9,18 @@ use lib.IntN.{ℤ, pos, natAbs}
 use lib.ListN.{getD}
 use Rattle.numeric.specs.Check.{every}
 use Rattle.numeric.proofs.CheckLaws.{every-none, every-more, every-fails}
+use Rattle.stoichiometry.specs.Substances.{substances}
 use Rattle.river.proofs.Bounds.{zero-bits, nonzero-bits}
 use Rattle.river.proofs.amounts.no_amount_from.Statement.{statement}
 use Rattle.river.proofs.amounts.no_amount_from.Tie as tie
+use Rattle.river.specs.Rivers.{mostCells}
 
 abbrev Inv-loop : tie.InvT-loop
 Inv-loop start amounts count i₀ i =
-    (i ≤ 144 - start) × (every i (λ (j : ℕ). eqb (natAbs (getD amounts (start + j) (pos 0))) 0) ≡ true)
+    (i ≤ mostCells * substances - start) × (every i (λ (j : ℕ). eqb (natAbs (getD amounts (start + j) (pos 0))) 0) ≡ true)
 
 abbrev μ-loop : tie.MeasureT-loop
-μ-loop start amounts count i₀ i = 144 - start - i
+μ-loop start amounts count i₀ i = mostCells * substances - start - i
 
 sub-count : tie.Need-sub-count Inv-loop μ-loop
 sub-count c = omega arith
@@ -63,7 +65,7 @@ returns c =
 returns-2 : tie.Need-returns-2 Inv-loop μ-loop
 returns-2 c =
     let at-start = c .before .before in
-    let all : c .before .loop .i ≡ 144 - at-start .args .start = omega arith in
+    let all : c .before .loop .i ≡ mostCells * substances - at-start .args .start = omega arith in
     sym (rw all at (c .before .loop .inv .1))
 
 pub no-amount-from-spec : {M : Type 1} → statement M

@@ -6,6 +6,7 @@ use native.Mathlib.Omega.{arith}
 use borrow.Author.Needs.{needs}
 use borrow.Author.Tests.{not-false}
 use Rattle.numeric.specs.Check.{every}
+use Rattle.stoichiometry.specs.Substances.{substances}
 use Rattle.river.proofs.Runs.{same-bounds, run-append}
 use Rattle.river.proofs.amounts.runs_fit.Statement.{statement}
 use Rattle.river.proofs.amounts.runs_fit.Tie as tie
@@ -57,7 +58,7 @@ returns-5 c e =
     let to-net = run-append amounts start 0 2 8 first grains in
     let to-organics = run-append amounts start 0 8 9 to-net net in
     let to-last = run-append amounts start 0 9 15 to-organics organics in
-    run-append amounts start 0 15 18 to-last last
+    run-append amounts start 0 15 substances to-last last
 
 pub runs-fit-spec : {M : Type 1} → statement M
 runs-fit-spec =

@@ -1,5 +1,5 @@
 -- `check::no_carry_from` meets its contract. The loop's invariant: the carries passed are zeros. No assumptions.
-use Prim.Native.Nat.{ℕ, _≤_, _+_, _-_}
+use Prim.Native.Nat.{ℕ, _*_, _≤_, _+_, _-_}
 use mathlib.Core.Bool.{true}
 use mathlib.Core.Path.{_≡_, sym}
 use native.Mathlib.Omega.{arith}
@@ -8,15 +8,17 @@ use lib.Dec.{eqb}
 use lib.ListN.{getD}
 use Rattle.numeric.specs.Check.{every}
 use Rattle.numeric.proofs.CheckLaws.{every-none, every-more, every-fails}
+use Rattle.stoichiometry.specs.Rows.{processes}
 use Rattle.river.proofs.check.no_carry_from.Statement.{statement}
 use Rattle.river.proofs.check.no_carry_from.Tie as tie
+use Rattle.river.specs.Rivers.{mostCells}
 
 abbrev Inv-loop : tie.InvT-loop
 Inv-loop start carries count i₀ i =
-    (i ≤ 136 - start) × (every i (λ (j : ℕ). eqb (getD carries (start + j) 0) 0) ≡ true)
+    (i ≤ mostCells * processes - start) × (every i (λ (j : ℕ). eqb (getD carries (start + j) 0) 0) ≡ true)
 
 abbrev μ-loop : tie.MeasureT-loop
-μ-loop start carries count i₀ i = 136 - start - i
+μ-loop start carries count i₀ i = mostCells * processes - start - i
 
 sub-count : tie.Need-sub-count Inv-loop μ-loop
 sub-count c = omega arith
@@ -54,7 +56,7 @@ returns c =
 returns-2 : tie.Need-returns-2 Inv-loop μ-loop
 returns-2 c =
     let at-start = c .before .before in
-    let all : c .before .loop .i ≡ 136 - at-start .args .start = omega arith in
+    let all : c .before .loop .i ≡ mostCells * processes - at-start .args .start = omega arith in
     sym (rw all at (c .before .loop .inv .1))
 
 pub no-carry-from-spec : {M : Type 1} → statement M

@@ -7,6 +7,7 @@ use borrow.Author.Needs.{needs}
 use borrow.Author.Tests.{eq-eqb, ne-eqb}
 use Rattle.rows.specs.Code.{askedOf}
 use Rattle.numeric.proofs.Machine.{kept-is}
+use Rattle.stoichiometry.specs.Substances.{substances}
 use Rattle.rows.proofs.check.asked_met.Statement.{statement}
 use Rattle.rows.proofs.check.asked_met.Tie as tie
 
@@ -93,7 +94,7 @@ returns-2 c =
     let at-nitrogen = at-phosphate .before .before in
     let asked-two = at-nitrogen .before .before in
     let a = asked-two .before .before .args in
-    let entry : ℕ → ℤ = λ s. getD (a .entries .now) (a .p * 18 + s) (pos 0) in
+    let entry : ℕ → ℤ = λ s. getD (a .entries .now) (a .p * substances + s) (pos 0) in
     rw (
       ne-eqb _ _ (asked-two .before .if1 .left),
       eq-eqb _ _ (asked-two .if2 .taken),

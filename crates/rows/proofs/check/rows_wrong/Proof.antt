@@ -7,16 +7,17 @@ use native.Mathlib.Omega.{arith}
 use lib.ListN.{getD}
 use Rattle.numeric.specs.Check.{every}
 use Rattle.numeric.proofs.CheckLaws.{every-none, every-more, every-fails}
+use Rattle.stoichiometry.specs.Rows.{processes}
 use Rattle.rows.specs.Code.{askedTable, askedOf, wrongOf}
 use Rattle.rows.proofs.check.rows_wrong.Statement.{statement}
 use Rattle.rows.proofs.check.rows_wrong.Tie as tie
 
 abbrev Inv-loop : tie.InvT-loop
 Inv-loop entries oxygen asked p₀ p =
-    (p ≤ 17) × (every p (λ j. askedOf entries oxygen j (getD askedTable j 0)) ≡ true)
+    (p ≤ processes) × (every p (λ j. askedOf entries oxygen j (getD askedTable j 0)) ≡ true)
 
 abbrev μ-loop : tie.MeasureT-loop
-μ-loop entries oxygen asked p₀ p = 17 - p
+μ-loop entries oxygen asked p₀ p = processes - p
 
 loop-holds : tie.Need-loop-holds Inv-loop μ-loop
 loop-holds c = (omega arith, every-none _)
@@ -46,14 +47,14 @@ unfolding wrongOf
 returns c =
     let at-asked = c .before in
     let at-loop = at-asked .before .before in
-    let fails = every-fails 17 (at-loop .loop .p) _ (omega arith) in
+    let fails = every-fails processes (at-loop .loop .p) _ (omega arith) in
     sym (ap not (fails (rw (← at-asked .asked-met .ensures) (c .if1 .left))))
 
 -- Every process has it.
 returns-2 : tie.Need-returns-2 Inv-loop μ-loop
 unfolding wrongOf
 returns-2 c =
-    let all-asked : c .before .loop .p ≡ 17 = omega arith in
+    let all-asked : c .before .loop .p ≡ processes = omega arith in
     sym (ap not (rw all-asked at (c .before .loop .inv .1)))
 
 pub rows-wrong-spec : {M : Type 1} → statement M

@@ -9,14 +9,15 @@ use lib.ListN.{getD}
 use mir.Facts.{toZ-ofZ}
 use Rattle.numeric.specs.Table.{run}
 use Rattle.numeric.proofs.Filling.{run-none, run-more}
+use Rattle.stoichiometry.specs.Substances.{substances}
 use Rattle.rows.proofs.processes.copy_row.Statement.{statement}
 use Rattle.rows.proofs.processes.copy_row.Tie as tie
 
 abbrev Inv-loop : tie.InvT-loop
-Inv-loop entries₀ at row s₀ entries s = (s ≤ 18) × (entries ≡ run entries₀ at s (λ k. getD row k (pos 0)))
+Inv-loop entries₀ at row s₀ entries s = (s ≤ substances) × (entries ≡ run entries₀ at s (λ k. getD row k (pos 0)))
 
 abbrev μ-loop : tie.MeasureT-loop
-μ-loop entries₀ at row s₀ entries s = 18 - s
+μ-loop entries₀ at row s₀ entries s = substances - s
 
 loop-holds : tie.Need-loop-holds Inv-loop μ-loop
 loop-holds c = (omega arith, run-none _ _ _)
@@ -52,7 +53,7 @@ loop-again c =
 returns : tie.Need-returns Inv-loop μ-loop
 returns c =
     let a = c .before .before .args in
-    let all-stored : c .before .loop .s ≡ 18 = omega arith in
+    let all-stored : c .before .loop .s ≡ substances = omega arith in
     c .before .loop .inv .1
     ∙ ap (λ (n : ℕ). run (a .entries .now) (a .at) n (λ k. getD (a .row .now) k (pos 0))) all-stored
 

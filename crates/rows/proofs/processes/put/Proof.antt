@@ -7,6 +7,7 @@ use mir.Syntax.{w64}
 use mir.Val.{SFits}
 use mir.Facts.{toZ-ofZ}
 use Rattle.numeric.specs.Table.{run}
+use Rattle.stoichiometry.specs.Substances.{substances}
 use Rattle.rows.specs.Code.{organicLine, rowList, rowStored}
 use borrow.Author.Needs.{needs}
 use Rattle.rows.proofs.processes.put.Statement.{statement}
@@ -41,7 +42,7 @@ returns c =
     let line = made .row .ensures ∙ λ t. rowList
     (organicLine (toZ-ofZ (f .ss) t) (toZ-ofZ (f .xh) t) (toZ-ofZ (f .xn1) t) (toZ-ofZ (f .xn2) t) (toZ-ofZ (f .xalg) t)
     (toZ-ofZ (f .xs) t) (toZ-ofZ (f .xi) t)) (a .d) in (
-      copied .copy-row .ensures ∙ (λ t. run (a .entries .now) (a .p * 18) 18 (λ s. getD (line t) s (pos 0))),
+      copied .copy-row .ensures ∙ (λ t. run (a .entries .now) (a .p * substances) substances (λ s. getD (line t) s (pos 0))),
       λ t. set (a .oxygen .now) (a .p) (toZ-ofZ (e-fits c) t),
     )
 

@@ -12,6 +12,7 @@ use Rattle.numeric.specs.Sum.{sum}
 use Rattle.numeric.proofs.Bounds.{fits-abs}
 use Rattle.numeric.proofs.Machine.{kept, kept-is}
 use Rattle.numeric.proofs.SumLaws.{sum-none}
+use Rattle.stoichiometry.specs.Rows.{processes}
 use Rattle.step.specs.Stepping.{digit, addedFrom}
 use Rattle.step.proofs.RowZeros.{digit-half}
 use Rattle.step.proofs.StepArithmetic.{total-bound, total-more}
@@ -20,11 +21,11 @@ use Rattle.step.proofs.apply.added.Tie as tie
 
 abbrev Inv-loop : tie.InvT-loop
 Inv-loop start whole at entries s changing total₀ digits₀ p₀ total digits p =
-    (p ≤ 17) × ((j : ℕ) → digit digits j ≡ digit changing (p + j))
+    (p ≤ processes) × ((j : ℕ) → digit digits j ≡ digit changing (p + j))
     × (toZ w64 total ≡ toZ w64 start +ℤ sum p (λ q. addedFrom whole at entries s q))
 
 abbrev μ-loop : tie.MeasureT-loop
-μ-loop start whole at entries s changing total₀ digits₀ p₀ total digits p = 17 - p
+μ-loop start whole at entries s changing total₀ digits₀ p₀ total digits p = processes - p
 
 loop-holds : tie.Need-loop-holds Inv-loop μ-loop
 loop-holds c =
@@ -49,7 +50,7 @@ add-total c =
     let at-loop = c .before .before in
     let start = at-loop .before in
     let p = at-loop .loop .p in
-    let below : p < 17 = c .before .loop-test .taken in
+    let below : p < processes = c .before .loop-test .taken in
     let whole = start .args .whole .now in
     let entries = start .args .entries .now in
     let term = kept-is (c .added-by .result) (c .added-by .ok) ∙ c .added-by .ensures in
@@ -69,7 +70,7 @@ loop-again c =
     let at-loop = c .before .before in
     let start = at-loop .before in
     let p = at-loop .loop .p in
-    let below : p < 17 = c .before .loop-test .taken in
+    let below : p < processes = c .before .loop-test .taken in
     let whole = start .args .whole .now in
     let entries = start .args .entries .now in
     let term = kept-is (c .added-by .result) (c .added-by .ok) ∙ c .added-by .ensures in
@@ -87,7 +88,7 @@ returns : tie.Need-returns Inv-loop μ-loop
 returns c =
     let at-loop = c .before in
     let start = at-loop .before in
-    let finished : at-loop .loop .p ≡ 17 = omega arith in
+    let finished : at-loop .loop .p ≡ processes = omega arith in
     rw (at-loop .loop .inv .2, toZ-ofZ (start .fits .start), finished) refl
 
 pub added-spec : {M : Type 1} → statement M

@@ -9,6 +9,7 @@ use mir.Syntax.{w64}
 use mir.Facts.{toZ-ofZ}
 use Rattle.numeric.proofs.Bounds.{fits-abs}
 use Rattle.numeric.proofs.Machine.{kept-is}
+use Rattle.stoichiometry.specs.Substances.{substances}
 use Rattle.step.proofs.RowZeros.{added-none}
 use Rattle.step.proofs.StepArithmetic.{term-bound}
 use borrow.Author.Needs.{needs}
@@ -41,7 +42,7 @@ mul-result-4 c =
     let start = c .before .before .before in
     let pre = start .pre in
     let x = getD (start .args .whole .now) (start .args .at + start .args .p) (pos 0) in
-    let y = getD (start .args .entries .now) (start .args .p * 18 + start .args .s) (pos 0) in
+    let y = getD (start .args .entries .now) (start .args .p * substances + start .args .s) (pos 0) in
     let term = term-bound (start .args .whole .now) (start .args .at) (start .args .entries .now) (start .args .s) (pre .3) (pre .4) (pre .0) (pre .1) (start .args .p) (pre .2) in
     rw (kept-is x (c .before .result .given), kept-is y (c .result2 .given)) (fits-abs (x *ℤ y) (omega (arith, term)))
 
@@ -50,7 +51,7 @@ returns c =
     let start = c .before .before .before in
     let pre = start .pre in
     let x = getD (start .args .whole .now) (start .args .at + start .args .p) (pos 0) in
-    let y = getD (start .args .entries .now) (start .args .p * 18 + start .args .s) (pos 0) in
+    let y = getD (start .args .entries .now) (start .args .p * substances + start .args .s) (pos 0) in
     let term = term-bound (start .args .whole .now) (start .args .at) (start .args .entries .now) (start .args .s) (pre .3) (pre .4) (pre .0) (pre .1) (start .args .p) (pre .2) in
     rw (kept-is x (c .before .result .given), kept-is y (c .result2 .given)) (toZ-ofZ {w = w64} {z = x *ℤ y} (fits-abs (x *ℤ y) (omega (arith, term))))
 

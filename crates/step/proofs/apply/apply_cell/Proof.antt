@@ -9,6 +9,8 @@ use lib.ListN.{getD}
 use Rattle.numeric.specs.Sum.{sum}
 use Rattle.numeric.specs.Table.{run}
 use Rattle.numeric.proofs.Filling.{run-none, run-more}
+use Rattle.stoichiometry.specs.Rows.{processes}
+use Rattle.stoichiometry.specs.Substances.{substances}
 use Rattle.step.specs.Stepping.{addedFrom}
 use Rattle.step.proofs.apply.apply_cell.Statement.{statement}
 use Rattle.step.proofs.apply.apply_cell.Tie as tie
@@ -70,12 +72,12 @@ start18 c = start17 (c .before .before)
 -- The new amount of the substance at place s.
 abbrev new : tie.Start → ℕ → ℤ
 new c s =
-    getD (c .args .amounts .now) (c .args .c * 18 + s) (pos 0)
-    +ℤ sum 17 (λ p. addedFrom (c .args .whole .now) (c .args .c * 17) (c .args .entries .now) s p)
+    getD (c .args .amounts .now) (c .args .c * substances + s) (pos 0)
+    +ℤ sum processes (λ p. addedFrom (c .args .whole .now) (c .args .c * processes) (c .args .entries .now) s p)
 
 -- The first n amounts of the cell are stored.
 abbrev Stored : tie.Start → ℕ → List ℤ → Type 0
-Stored c n out = out ≡ run (c .args .out .now) (c .args .c * 18) n (new c)
+Stored c n out = out ≡ run (c .args .out .now) (c .args .c * substances) n (new c)
 
 stored1 : (c : tie.After-apply-one) → Stored (start1 c) 1 (c .apply-one .last .1 .1 .1 .1 .1 .1 .0)
 stored1 c = c .apply-one .ensures ∙ run-more _ _ 0 (new (start1 c)) _ _ (run-none _ _ _) refl

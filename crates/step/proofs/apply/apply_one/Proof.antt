@@ -6,6 +6,8 @@ use lib.IntN.{ℤ, pos, _+ℤ_}
 use lib.ListN.{getD, set}
 use Rattle.numeric.specs.Sum.{sum}
 use Rattle.numeric.proofs.Machine.{kept-is}
+use Rattle.stoichiometry.specs.Rows.{processes}
+use Rattle.stoichiometry.specs.Substances.{substances}
 use Rattle.step.specs.Stepping.{addedFrom}
 use borrow.Author.Needs.{needs}
 use Rattle.step.proofs.apply.apply_one.Statement.{statement}
@@ -29,7 +31,7 @@ mul-added-2 c = search needs
 added-requires : tie.Need-added-requires
 added-requires c κs =
     let start = c .before in
-    let k = start .args .c * 18 + start .args .s in
+    let k = start .args .c * substances + start .args .s in
     let pre = start .pre in
     (rw (kept-is (getD (start .args .amounts .now) k (pos 0)) (c .added-arg .given)) (pre .1 .most k (omega arith)), omega arith, pre .4, pre .2, pre .3, pre .5)
 
@@ -43,9 +45,9 @@ returns : tie.Need-returns
 returns c =
     let start = c .before .before in
     let args = start .args in
-    let k = args .c * 18 + args .s in
+    let k = args .c * substances + args .s in
     let amount = kept-is (getD (args .amounts .now) k (pos 0)) (c .before .added-arg .given) in
-    let more = sum 17 (λ p. addedFrom (args .whole .now) (args .c * 17) (args .entries .now) (args .s) p) in
+    let more = sum processes (λ p. addedFrom (args .whole .now) (args .c * processes) (args .entries .now) (args .s) p) in
     ap (set (args .out .now) k) (kept-is (c .added .result) (c .added .ok) ∙ c .added .ensures ∙ ap (λ (z : ℤ). z +ℤ more) amount)
 
 pub apply-one-spec : {M : Type 1} → statement M

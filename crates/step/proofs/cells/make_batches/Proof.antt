@@ -6,6 +6,8 @@ use native.Mathlib.Omega.{arith}
 use borrow.Author.Needs.{needs}
 use lib.IntN.{pos}
 use Rattle.numeric.proofs.Filling.{FilledThen, then-none, then-run, then-done}
+use Rattle.stoichiometry.specs.Rows.{processes}
+use Rattle.river.specs.Rivers.{mostCells}
 use Rattle.step.specs.Stepping.{wholeFrom, restFrom}
 use Rattle.step.proofs.StepLoop.{cell-fits, extents-small, whole-at, rest-at, whole-beyond, rest-beyond}
 use Rattle.step.proofs.cells.make_batches.Statement.{statement}
@@ -13,8 +15,8 @@ use Rattle.step.proofs.cells.make_batches.Tie as tie
 
 abbrev Inv-loop : tie.InvT-loop
 Inv-loop set given n entries amounts carries whole₀ rest₀ constants sizes c₀ whole rest c =
-    (c ≤ n) × FilledThen 136 (c * 17) (wholeFrom set given n amounts carries) (pos 0) whole
-    × FilledThen 136 (c * 17) (restFrom set given n amounts carries) 0 rest
+    (c ≤ n) × FilledThen (mostCells * processes) (c * processes) (wholeFrom set given n amounts carries) (pos 0) whole
+    × FilledThen (mostCells * processes) (c * processes) (restFrom set given n amounts carries) 0 rest
 
 abbrev μ-loop : tie.MeasureT-loop
 μ-loop set given n entries amounts carries whole₀ rest₀ constants sizes c₀ whole rest c = n - c
@@ -28,7 +30,7 @@ batch-sizes-requires c κs = search needs
 loop-holds : tie.Need-loop-holds Inv-loop μ-loop
 loop-holds c =
     let pre = c .before .before .pre in
-    (omega arith, rw (pre .1) (then-none 136 _ (pos 0)), rw (pre .2) (then-none 136 _ 0))
+    (omega arith, rw (pre .1) (then-none (mostCells * processes) _ (pos 0)), rw (pre .2) (then-none (mostCells * processes) _ 0))
 
 cell-extents-requires : tie.Need-cell-extents-requires Inv-loop μ-loop
 cell-extents-requires c κs =
@@ -84,13 +86,13 @@ loop-again c =
     let n = start .args .n in
     let a = start .args .amounts .now in
     let r = start .args .carries .now in
-    let more : k * 17 + 17 ≡ (k + 1) * 17 = omega arith in
+    let more : k * processes + processes ≡ (k + 1) * processes = omega arith in
     let whole =
-    then-run 136 (k * 17) 17 _ _ (pos 0) _ _ (at-loop .loop .inv .1) (omega (arith, going .cells))
+    then-run (mostCells * processes) (k * processes) processes _ _ (pos 0) _ _ (at-loop .loop .inv .1) (omega (arith, going .cells))
     (λ s l. rw (computed .cell-extents .ensures) (whole-at (start .args .set) (start .args .given) n a r k s below l))
     (c .split .ensures .0) in
     let rest =
-    then-run 136 (k * 17) 17 _ _ 0 _ _ (at-loop .loop .inv .2) (omega (arith, going .cells))
+    then-run (mostCells * processes) (k * processes) processes _ _ 0 _ _ (at-loop .loop .inv .2) (omega (arith, going .cells))
     (λ s l. rw (computed .cell-extents .ensures) (rest-at (start .args .set) (start .args .given) n a r k s below l))
     (c .split .ensures .1) in
     (omega arith, rw more at whole, rw more at rest)
@@ -105,8 +107,8 @@ returns c =
     let a = start .args .amounts .now in
     let r = start .args .carries .now in
     let finished : at-loop .loop .c ≡ n = omega arith in (
-      then-done 136 (at-loop .loop .c * 17) _ (pos 0) _ (at-loop .loop .inv .1) (λ k h l. whole-beyond set given n a r k (rw finished at h)),
-      then-done 136 (at-loop .loop .c * 17) _ 0 _ (at-loop .loop .inv .2) (λ k h l. rest-beyond set given n a r k (rw finished at h)),
+      then-done (mostCells * processes) (at-loop .loop .c * processes) _ (pos 0) _ (at-loop .loop .inv .1) (λ k h l. whole-beyond set given n a r k (rw finished at h)),
+      then-done (mostCells * processes) (at-loop .loop .c * processes) _ 0 _ (at-loop .loop .inv .2) (λ k h l. rest-beyond set given n a r k (rw finished at h)),
     )
 
 pub make-batches-spec : {M : Type 1} → statement M

@@ -10,14 +10,15 @@ use lib.Signed.{leZ}
 use Rattle.numeric.specs.Check.{every}
 use Rattle.numeric.proofs.Machine.{kept-is}
 use Rattle.numeric.proofs.CheckLaws.{every-none, every-more, every-fails}
+use Rattle.stoichiometry.specs.Rows.{processes}
 use Rattle.step.proofs.split.cell_batches_fit.Statement.{statement}
 use Rattle.step.proofs.split.cell_batches_fit.Tie as tie
 
 abbrev Inv-loop : tie.InvT-loop
-Inv-loop whole at p₀ p = (p ≤ 17) × (every p (λ q. leZ (getD whole (at + q) (pos 0)) (pos 100000)) ≡ true)
+Inv-loop whole at p₀ p = (p ≤ processes) × (every p (λ q. leZ (getD whole (at + q) (pos 0)) (pos 100000)) ≡ true)
 
 abbrev μ-loop : tie.MeasureT-loop
-μ-loop whole at p₀ p = 17 - p
+μ-loop whole at p₀ p = processes - p
 
 loop-holds : tie.Need-loop-holds Inv-loop μ-loop
 loop-holds c = (omega arith, every-none _)
@@ -50,12 +51,12 @@ returns c =
     let at-loop = entered .before in
     let start = at-loop .before in
     let x = getD (start .args .whole .now) (start .args .at + at-loop .loop .p) (pos 0) in
-    sym (every-fails 17 (at-loop .loop .p) _ (entered .loop-test .taken) (rw (kept-is x (c .before .if12 .given)) at (c .if1 .left)))
+    sym (every-fails processes (at-loop .loop .p) _ (entered .loop-test .taken) (rw (kept-is x (c .before .if12 .given)) at (c .if1 .left)))
 
 returns-2 : tie.Need-returns-2 Inv-loop μ-loop
 returns-2 c =
     let at-loop = c .before in
-    let finished : at-loop .loop .p ≡ 17 = omega arith in
+    let finished : at-loop .loop .p ≡ processes = omega arith in
     rw (← finished, at-loop .loop .inv .1)
 
 pub cell-batches-fit-spec : {M : Type 1} → statement M

@@ -8,17 +8,18 @@ use mir.Syntax.{w64}
 use mir.Facts.{toZ-pos}
 use Rattle.numeric.specs.Table.{run}
 use Rattle.numeric.proofs.Filling.{run-none, run-more}
+use Rattle.stoichiometry.specs.Rows.{processes}
 use Rattle.step.specs.Stepping.{carriedFrom}
 use Rattle.step.proofs.split.split.Statement.{statement}
 use Rattle.step.proofs.split.split.Tie as tie
 
 abbrev Inv-loop : tie.InvT-loop
 Inv-loop extents carries at whole₀ rest₀ p₀ whole rest p =
-    (p ≤ 17) × (whole ≡ run whole₀ at p (λ q. pos (carriedFrom extents carries at q / 1000000)))
+    (p ≤ processes) × (whole ≡ run whole₀ at p (λ q. pos (carriedFrom extents carries at q / 1000000)))
     × (rest ≡ run rest₀ at p (λ q. carriedFrom extents carries at q % 1000000))
 
 abbrev μ-loop : tie.MeasureT-loop
-μ-loop extents carries at whole₀ rest₀ p₀ whole rest p = 17 - p
+μ-loop extents carries at whole₀ rest₀ p₀ whole rest p = processes - p
 
 -- An extent and a carry are far below 2^63.
 small : (c : tie.In-loop Inv-loop μ-loop)
@@ -94,7 +95,7 @@ loop-again c =
 returns : tie.Need-returns Inv-loop μ-loop
 returns c =
     let at-loop = c .before in
-    let finished : at-loop .loop .p ≡ 17 = omega arith in
+    let finished : at-loop .loop .p ≡ processes = omega arith in
     (rw (at-loop .loop .inv .1, finished), rw (at-loop .loop .inv .2, finished))
 
 pub split-spec : {M : Type 1} → statement M

@@ -7,16 +7,17 @@ use mir.Syntax.{w64}
 use mir.Val.{toZ}
 use Rattle.numeric.specs.Sum.{sum}
 use Rattle.numeric.proofs.SumLaws.{sum-none}
+use Rattle.stoichiometry.specs.Substances.{substances}
 use Rattle.totals.specs.TotalsCode.{heldBy, weightedTotal}
 use Rattle.totals.proofs.TotalsLaws.{held-fits, sum-fits, sum-next}
 use Rattle.totals.proofs.cell_totals.weighted_total.Statement.{statement}
 use Rattle.totals.proofs.cell_totals.weighted_total.Tie as tie
 
 abbrev Inv-loop : tie.InvT-loop
-Inv-loop amounts start weights total₀ s₀ total s = (s ≤ 18) × (toZ w64 total ≡ sum s (heldBy amounts start weights))
+Inv-loop amounts start weights total₀ s₀ total s = (s ≤ substances) × (toZ w64 total ≡ sum s (heldBy amounts start weights))
 
 abbrev μ-loop : tie.MeasureT-loop
-μ-loop amounts start weights total₀ s₀ total s = 18 - s
+μ-loop amounts start weights total₀ s₀ total s = substances - s
 
 loop-holds : tie.Need-loop-holds Inv-loop μ-loop
 loop-holds c = (omega arith, sym (sum-none _))
@@ -41,7 +42,7 @@ mul-sum-3 c =
     let at-loop = c .before .before .before in
     let at-start = at-loop .before in
     let a = at-start .args in
-    let inside : at-loop .loop .s < 18 = omega arith in
+    let inside : at-loop .loop .s < substances = omega arith in
     held-fits (a .amounts .now) (a .start) (a .weights .now) (at-start .pre .1) (at-loop .loop .s) inside
     (c .before .sum .given) (c .sum2 .given)
 
@@ -50,7 +51,7 @@ add-sum-2 c =
     let at-loop = c .before .before .before in
     let at-start = at-loop .before in
     let a = at-start .args in
-    let inside : at-loop .loop .s < 18 = omega arith in
+    let inside : at-loop .loop .s < substances = omega arith in
     sum-fits (a .amounts .now) (a .start) (a .weights .now) (at-start .pre .1) (at-loop .loop .s) inside
     (c .before .sum .given) (c .sum2 .given) (at-loop .loop .sum) (at-loop .loop .inv .1)
 
@@ -65,7 +66,7 @@ loop-again c =
     let at-loop = c .before .before .before in
     let at-start = at-loop .before in
     let a = at-start .args in
-    let inside : at-loop .loop .s < 18 = omega arith in (
+    let inside : at-loop .loop .s < substances = omega arith in (
       omega arith,
       sum-next (a .amounts .now) (a .start) (a .weights .now) (at-start .pre .1) (at-loop .loop .s) inside
           (c .before .sum .given) (c .sum2 .given) (at-loop .loop .sum) (at-loop .loop .inv .1),
@@ -74,7 +75,7 @@ loop-again c =
 returns : tie.Need-returns Inv-loop μ-loop
 unfolding weightedTotal
 returns c =
-    let all : c .before .loop .s ≡ 18 = omega arith in
+    let all : c .before .loop .s ≡ substances = omega arith in
     rw all at (c .before .loop .inv .1)
 
 pub weighted-total-spec : {M : Type 1} → statement M

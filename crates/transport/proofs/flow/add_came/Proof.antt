@@ -10,15 +10,17 @@ use mir.Facts.{toZ-ofZ}
 use Rattle.numeric.specs.Table.{run}
 use Rattle.numeric.proofs.Machine.{kept}
 use Rattle.numeric.proofs.Filling.{run-none, run-more, run-beyond}
+use Rattle.stoichiometry.specs.Substances.{substances}
+use Rattle.river.specs.Rivers.{mostCells}
 use Rattle.transport.proofs.flow.add_came.Statement.{statement}
 use Rattle.transport.proofs.flow.add_came.Tie as tie
 
 abbrev Inv-loop : tie.InvT-loop
 Inv-loop cells amounts₀ left end k₀ amounts k =
-    (k ≤ (cells - 1) * 18) × (amounts ≡ run amounts₀ 18 k (λ (j : ℕ). getD amounts₀ (18 + j) (pos 0) +ℤ getD left j (pos 0)))
+    (k ≤ (cells - 1) * substances) × (amounts ≡ run amounts₀ substances k (λ (j : ℕ). getD amounts₀ (substances + j) (pos 0) +ℤ getD left j (pos 0)))
 
 abbrev μ-loop : tie.MeasureT-loop
-μ-loop cells amounts₀ left end k₀ amounts k = 144 - k
+μ-loop cells amounts₀ left end k₀ amounts k = mostCells * substances - k
 
 sub-end : tie.Need-sub-end Inv-loop μ-loop
 sub-end c = omega arith
@@ -28,13 +30,13 @@ mul-end c = omega arith
 
 -- The amount at k is what stayed.
 still : (c : tie.At-loop Inv-loop μ-loop)
-    → getD (c .loop .amounts) (18 + c .loop .k) (pos 0) ≡ getD (c .before .args .amounts .now) (18 + c .loop .k) (pos 0)
+    → getD (c .loop .amounts) (substances + c .loop .k) (pos 0) ≡ getD (c .before .args .amounts .now) (substances + c .loop .k) (pos 0)
 still c =
-    ap (λ l. getD l (18 + c .loop .k) (pos 0)) (c .loop .inv .1)
-    ∙ run-beyond (c .before .args .amounts .now) 18 (c .loop .k) _ (18 + c .loop .k) (pos 0) (omega arith)
+    ap (λ l. getD l (substances + c .loop .k) (pos 0)) (c .loop .inv .1)
+    ∙ run-beyond (c .before .args .amounts .now) substances (c .loop .k) _ (substances + c .loop .k) (pos 0) (omega arith)
 
 loop-holds : tie.Need-loop-holds Inv-loop μ-loop
-loop-holds c = (omega arith, run-none _ 18 _)
+loop-holds c = (omega arith, run-none _ substances _)
 
 add-with : tie.Need-add-with Inv-loop μ-loop
 add-with c = omega arith
@@ -56,7 +58,7 @@ with-requires c κs =
     let at-loop = c .before .before .before in
     let handed = at-loop .before .pre in
     let k = at-loop .loop .k in (
-      rw (toZ-ofZ (sfits-of (c .before .with-arg .given)), still at-loop) (handed .2 .small (18 + k) (omega arith)),
+      rw (toZ-ofZ (sfits-of (c .before .with-arg .given)), still at-loop) (handed .2 .small (substances + k) (omega arith)),
       rw (toZ-ofZ (sfits-of (c .with-arg2 .given))) (handed .3 .small k (omega arith)),
     )
 
@@ -80,7 +82,7 @@ loop-again c =
     let at-loop = c .before .before .before .before in
     let value = kept (c .with .result) in (
       omega arith,
-      run-more _ 18 (at-loop .loop .k) _ (at-loop .loop .amounts) value (at-loop .loop .inv .1)
+      run-more _ substances (at-loop .loop .k) _ (at-loop .loop .amounts) value (at-loop .loop .inv .1)
           (rw (
             toZ-ofZ (sfits-of (c .with .ok)),
             c .with .ensures,
@@ -92,7 +94,7 @@ loop-again c =
 
 returns : tie.Need-returns Inv-loop μ-loop
 returns c =
-    let all : c .before .loop .k ≡ (c .before .before .args .cells - 1) * 18 = omega arith in
+    let all : c .before .loop .k ≡ (c .before .before .args .cells - 1) * substances = omega arith in
     rw all at (c .before .loop .inv .1)
 
 pub add-came-spec : {M : Type 1} → statement M

@@ -1,6 +1,6 @@
 -- `flow::left_all` meets its contract. The loop's invariant: the first k elements are what passes of the first k
 -- amounts. No assumptions.
-use Prim.Native.Nat.{ℕ, _-_}
+use Prim.Native.Nat.{ℕ, _-_, _*_}
 use native.Mathlib.Omega.{arith}
 use mathlib.Core.Path.{refl}
 use lib.ListN.{getD}
@@ -8,18 +8,20 @@ use lib.IntN.{pos}
 use borrow.Author.Needs.{sfits-of}
 use mir.Facts.{toZ-ofZ}
 use Rattle.numeric.proofs.Filling.{Filled, fill-none, fill-more, fill-done}
+use Rattle.stoichiometry.specs.Substances.{substances}
+use Rattle.river.specs.Rivers.{mostCells}
 use Rattle.transport.specs.Flow.{passing, leftOf}
 use Rattle.transport.proofs.flow.left_all.Statement.{statement}
 use Rattle.transport.proofs.flow.left_all.Tie as tie
 
 abbrev Inv-loop : tie.InvT-loop
-Inv-loop amounts part left₀ k₀ left k = Filled 144 k (λ (j : ℕ). passing part (getD amounts j (pos 0))) left
+Inv-loop amounts part left₀ k₀ left k = Filled (mostCells * substances) k (λ (j : ℕ). passing part (getD amounts j (pos 0))) left
 
 abbrev μ-loop : tie.MeasureT-loop
-μ-loop amounts part left₀ k₀ left k = 144 - k
+μ-loop amounts part left₀ k₀ left k = mostCells * substances - k
 
 loop-holds : tie.Need-loop-holds Inv-loop μ-loop
-loop-holds c = fill-none 144 _ _ refl
+loop-holds c = fill-none (mostCells * substances) _ _ refl
 
 mul-passed : tie.Need-mul-passed Inv-loop μ-loop
 mul-passed c = omega arith
@@ -48,12 +50,12 @@ loop-less c = omega arith
 loop-again : tie.Need-loop-again Inv-loop μ-loop
 loop-again c =
     let at-loop = c .before .before .before in
-    fill-more 144 (at-loop .loop .k) _ _ _ (at-loop .loop .inv) (omega arith)
+    fill-more (mostCells * substances) (at-loop .loop .k) _ _ _ (at-loop .loop .inv) (omega arith)
     (rw (toZ-ofZ (sfits-of (c .passed .ok)), c .passed .ensures, toZ-ofZ (sfits-of (c .before .passed-arg .given))))
 
 returns : tie.Need-returns Inv-loop μ-loop
 unfolding leftOf
-returns c = fill-done 144 _ _ _ (c .before .loop .inv) (omega arith)
+returns c = fill-done (mostCells * substances) _ _ _ (c .before .loop .inv) (omega arith)
 
 pub left-all-spec : {M : Type 1} → statement M
 left-all-spec =

@@ -1,6 +1,6 @@
 -- `flow::take_left` meets its contract. The loop's invariant: what left is taken from the first k amounts. No
 -- assumptions.
-use Prim.Native.Nat.{ℕ, _-_, _≤_}
+use Prim.Native.Nat.{ℕ, _-_, _*_, _≤_}
 use mathlib.Core.Path.{_≡_, sym, ap, _∙_}
 use native.Mathlib.Nat.{zero-add}
 use native.Mathlib.Omega.{arith}
@@ -11,14 +11,16 @@ use mir.Facts.{toZ-ofZ}
 use Rattle.numeric.specs.Table.{run}
 use Rattle.numeric.proofs.Machine.{kept}
 use Rattle.numeric.proofs.Filling.{run-none, run-more, run-beyond}
+use Rattle.stoichiometry.specs.Substances.{substances}
+use Rattle.river.specs.Rivers.{mostCells}
 use Rattle.transport.proofs.flow.take_left.Statement.{statement}
 use Rattle.transport.proofs.flow.take_left.Tie as tie
 
 abbrev Inv-loop : tie.InvT-loop
-Inv-loop amounts₀ left k₀ amounts k = (k ≤ 144) × (amounts ≡ run amounts₀ 0 k (λ (j : ℕ). getD amounts₀ j (pos 0) -ℤ getD left j (pos 0)))
+Inv-loop amounts₀ left k₀ amounts k = (k ≤ mostCells * substances) × (amounts ≡ run amounts₀ 0 k (λ (j : ℕ). getD amounts₀ j (pos 0) -ℤ getD left j (pos 0)))
 
 abbrev μ-loop : tie.MeasureT-loop
-μ-loop amounts₀ left k₀ amounts k = 144 - k
+μ-loop amounts₀ left k₀ amounts k = mostCells * substances - k
 
 -- The amount at k is the one before.
 still : (c : tie.At-loop Inv-loop μ-loop)
@@ -82,7 +84,7 @@ loop-again c =
 
 returns : tie.Need-returns Inv-loop μ-loop
 returns c =
-    let all : c .before .loop .k ≡ 144 = omega arith in
+    let all : c .before .loop .k ≡ mostCells * substances = omega arith in
     rw all at (c .before .loop .inv .1)
 
 pub take-left-spec : {M : Type 1} → statement M
