@@ -3,12 +3,11 @@
 use mathlib.Core.Path.{_≡_, refl, sym, ap, _∙_, subst}
 use mathlib.Core.Bool.{Bool, true, false, not}
 use lib.Dec.{T}
-use lib.IntN.{ℤ, pos, negsuc}
+use lib.IntN.{ℤ}
 use lib.Signed.{ltZ, leZ, _≤ℤ_, _<ℤ_, ltZ-no}
 use mir.Syntax.{Width}
 use mir.Val.{SFits, toZ, ofZ}
 use mir.Facts.{toZ-ofZ}
-use borrow.Author.Tests.{ltb-true, leb-true, leb-false, lt-ltb, le-ltb, lt-leb}
 
 pub ltZ-true : (a b : ℤ) → ltZ a b ≡ true → a <ℤ b
 ltZ-true a b e = record { lt = subst T (sym e) tt }
@@ -19,12 +18,6 @@ ltZ-false a b e = ltZ-no (subst (λ (t : Bool). T (not t)) (sym e) tt)
 pub leZ-true : (a b : ℤ) → leZ a b ≡ true → a ≤ℤ b
 leZ-true a b e = record { le = subst T (sym e) tt }
 
-pub leZ-false : (a b : ℤ) → leZ a b ≡ false → b <ℤ a
-leZ-false (pos a) (pos b) e = record { lt = subst T (sym (lt-ltb b a (leb-false a b e))) tt }
-leZ-false (pos a) (negsuc b) e = record { lt = tt }
-leZ-false (negsuc a) (pos b) e = absurd (subst T e tt)
-leZ-false (negsuc a) (negsuc b) e = record { lt = subst T (sym (lt-ltb a b (leb-false b a e))) tt }
-
 is-true : (t : Bool) → T t → t ≡ true
 is-true true h = refl
 is-true false h = absurd h
@@ -34,18 +27,6 @@ lt-ltZ a b h = is-true (ltZ a b) (h .lt)
 
 pub le-leZ : (a b : ℤ) → a ≤ℤ b → leZ a b ≡ true
 le-leZ a b h = is-true (leZ a b) (h .le)
-
-pub lt-leZ : (a b : ℤ) → b <ℤ a → leZ a b ≡ false
-lt-leZ (pos a) (pos b) h = lt-leb a b (ltb-true b a (is-true _ (h .lt)))
-lt-leZ (pos a) (negsuc b) h = refl
-lt-leZ (negsuc a) (pos b) h = absurd (h .lt)
-lt-leZ (negsuc a) (negsuc b) h = lt-leb b a (ltb-true a b (is-true _ (h .lt)))
-
-pub le-ltZ : (a b : ℤ) → b ≤ℤ a → ltZ a b ≡ false
-le-ltZ (pos a) (pos b) h = le-ltb a b (leb-true b a (is-true _ (h .le)))
-le-ltZ (pos a) (negsuc b) h = refl
-le-ltZ (negsuc a) (pos b) h = absurd (h .le)
-le-ltZ (negsuc a) (negsuc b) h = le-ltb b a (leb-true a b (is-true _ (h .le)))
 
 -- The same of bits: a signed local is `ofZ w z`, and a test on it is of `toZ w (ofZ w z)`.
 pub bits-eq : {w : Width} {x y : ℤ} → SFits w x → SFits w y → ofZ w x ≡ ofZ w y → x ≡ y

@@ -1,13 +1,10 @@
--- Division rounded toward zero (`quotZ`, `remZ`) and down (`floorZ`). No assumptions.
+-- Division rounded toward zero (`quotZ`, `remZ`). No assumptions.
 use mathlib.Core.Path.{_≡_, refl, sym, ap, ap₂, _∙_}
-use mathlib.Core.List.{[], _∷_}
-use Prim.Native.Nat.{ℕ, zero, suc, _+_, _*_, _/_, _%_, _≤_, _<_}
+use Prim.Native.Nat.{ℕ, zero, suc, _+_, _*_, _/_, _%_, _<_}
 use native.Mathlib.Omega.{arith}
-use native.Mathlib.Nat.{zero-div, mul-div-cancel-left, mul-add-div-right, div-add-mod', mod-lt}
+use native.Mathlib.Nat.{zero-div, mul-div-cancel-left, mul-add-div-right, div-add-mod'}
 use lib.IntN.{ℤ, pos, negsuc, negℤ, natAbs, _+ℤ_, _*ℤ_, negℤ-+ℤ}
-use lib.Signed.{quotZ, remZ, _≤ℤ_, _<ℤ_}
-use Rattle.numeric.specs.Rounding.{floorZ}
-use Rattle.numeric.proofs.Expression.{v, _⊕_, _⊗_, at-most, below}
+use lib.Signed.{quotZ, remZ}
 use Rattle.numeric.proofs.Bounds.{abs-neg}
 use Rattle.numeric.proofs.RingLaws.{neg-*ℤ}
 
@@ -23,10 +20,6 @@ quot-exact d (negsuc a) h = quot-neg (d * suc a) d ∙ ap (λ (k : ℕ). negℤ 
 pub abs-quot : (z : ℤ) (d : ℕ) → natAbs (quotZ z (pos d)) ≡ natAbs z / d
 abs-quot (pos n) d = refl
 abs-quot (negsuc n) d = abs-neg (pos (suc n / d))
-
-pub abs-rem : (z : ℤ) (d : ℕ) → natAbs (remZ z (pos d)) ≡ natAbs z % d
-abs-rem (pos n) d = refl
-abs-rem (negsuc n) d = abs-neg (pos (suc n % d))
 
 split-nat : (n p d : ℕ) → 0 < d → n / d * p + n % d * p / d ≡ n * p / d
 split-nat n p d h =
@@ -47,18 +40,3 @@ quot-split (negsuc n) p d h =
     ∙ sym (negℤ-+ℤ (pos (suc n / d * p)) (pos (suc n % d * p / d)))
     ∙ ap (λ (k : ℕ). negℤ (pos k)) (split-nat (suc n) p d h)
     ∙ sym (quot-neg (suc n * p) d)
-
--- Rounded down: the quotient times the divisor is at most the number, and less than a divisor below it.
-pub floor-le : (z : ℤ) (d : ℕ) → 0 < d → (pos d *ℤ floorZ z d) ≤ℤ z
-unfolding floorZ
-floor-le (pos n) d h =
-    at-most (pos n ∷ pos d ∷ pos (n / d) ∷ []) (v 1 ⊗ v 2) (v 0) (omega (arith, div-add-mod' n d))
-floor-le (negsuc n) d h =
-    at-most (negsuc n ∷ pos d ∷ negsuc (n / d) ∷ []) (v 1 ⊗ v 2) (v 0) (omega (arith, div-add-mod' n d, mod-lt n h))
-
-pub floor-lt : (z : ℤ) (d : ℕ) → 0 < d → z <ℤ (pos d *ℤ floorZ z d +ℤ pos d)
-unfolding floorZ
-floor-lt (pos n) d h =
-    below (pos n ∷ pos d ∷ pos (n / d) ∷ []) (v 0) (v 1 ⊗ v 2 ⊕ v 1) (omega (arith, div-add-mod' n d, mod-lt n h))
-floor-lt (negsuc n) d h =
-    below (negsuc n ∷ pos d ∷ negsuc (n / d) ∷ []) (v 0) (v 1 ⊗ v 2 ⊕ v 1) (omega (arith, div-add-mod' n d))
