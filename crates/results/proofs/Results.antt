@@ -20,7 +20,8 @@ use Rattle.stoichiometry.proofs.Balance as Balance
 use Rattle.kinetics.specs.Factors.{monod, inhibition, times}
 use Rattle.kinetics.specs.Rates.{levelsOf, takesPhosphate, takesNitrogen, productsOf, quota, extent, extentAt}
 use Rattle.river.specs.declared.River.{River}
-use Rattle.river.specs.Rivers.{mostCells, riverWrong, zeroRiver, levelOf}
+use Rattle.stoichiometry.specs.Levels.{levelOf}
+use Rattle.river.specs.Rivers.{mostCells, riverWrong, zeroRiver}
 use Rattle.transport.specs.Flow.{passing, flowNumber}
 use Rattle.transport.specs.Air.{exchanged, gain, airNumber}
 use Rattle.transport.proofs.FlowLaws.{flow-number-not-eight}

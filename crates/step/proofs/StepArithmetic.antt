@@ -10,7 +10,7 @@ use Rattle.numeric.specs.Sum.{sum}
 use Rattle.numeric.proofs.Bounds.{abs-add, abs-mul-le}
 use Rattle.numeric.proofs.SumLaws.{sum-more, sum-bound}
 use Rattle.stoichiometry.specs.Rows.{processes}
-use Rattle.stoichiometry.specs.Substances.{substances}
+use Rattle.stoichiometry.specs.Substances.{substances, mostNet}
 use Rattle.river.specs.Rivers.{mostCells}
 use Rattle.step.specs.Stepping.{Whole, Entries, addedFrom, newFrom}
 
@@ -21,7 +21,7 @@ module _ (whole : List ℤ) (at : ℕ) (entries : List ℤ) (s : ℕ) (w : Whole
       abs-mul-le (getD whole (at + p) (pos 0)) (getD entries (p * substances + s) (pos 0)) (w .most (at + p) (omega arith)) (e .most (p * substances + s) (omega arith))
 
   -- An amount with what some processes add fits 64 bits.
-  pub total-bound : (start : ℤ) → natAbs start ≤ 1000000000000000000 → (p : ℕ) → p ≤ processes
+  pub total-bound : (start : ℤ) → natAbs start ≤ mostNet → (p : ℕ) → p ≤ processes
       → natAbs (start +ℤ sum p (λ q. addedFrom whole at entries s q)) ≤ 5250000000000000000
   total-bound start b p k =
       omega (

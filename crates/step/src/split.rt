@@ -8,14 +8,14 @@ ghost use Rattle.stoichiometry.specs.Rows.{processes};
 ghost use Rattle.river.specs.Rivers.{mostCells};
 ghost use lib.IntN.{pos};
 ghost use lib.Signed.{leZ};
+ghost use Rattle.step.specs.Steps.{mostBatches};
 ghost use Rattle.step.specs.Stepping.{carriedFrom, Extents, Carries};
 use river::CARRIES;
+use river::River;
 use stoichiometry::PROCESSES;
 
-// One batch, in millionths; the most whole batches of a process in one step of one cell.
+// One batch, in millionths.
 const BATCH: u64 = 1000000;
-
-const BATCHES_MOST: i64 = 100000;
 
 // The whole batches and the new carries of one cell, whose carries stand from `at` on.
 pub(crate) fn split(
@@ -41,11 +41,11 @@ pub(crate) fn split(
 // No process of the cell whose batches stand from `at` on reaches more than 100,000 whole batches.
 fn cell_batches_fit(whole: &[i64; CARRIES], at: usize) -> bool
     requires { ⌜ at + processes ≤ mostCells * processes ⌝ }
-    ensures { λ r. ⌜ r ≡ every processes (λ p. leZ (getD (now (whole .entry)) (at + p) (pos 0)) (pos 100000)) ⌝ }
+    ensures { λ r. ⌜ r ≡ every processes (λ p. leZ (getD (now (whole .entry)) (at + p) (pos 0)) (pos mostBatches)) ⌝ }
 {
     let mut p = 0;
     while p < PROCESSES {
-        if whole[at + p] <= BATCHES_MOST {
+        if whole[at + p] <= River::BATCHES_MOST {
             p += 1;
         } else {
             return false;
@@ -57,7 +57,7 @@ fn cell_batches_fit(whole: &[i64; CARRIES], at: usize) -> bool
 // Check 7: no process of the n cells does.
 pub(crate) fn batches_fit(n: usize, whole: &[i64; CARRIES]) -> bool
     requires { ⌜ n ≤ mostCells ⌝ }
-    ensures { λ r. ⌜ r ≡ every n (λ c. every processes (λ p. leZ (getD (now (whole .entry)) (c * processes + p) (pos 0)) (pos 100000))) ⌝ }
+    ensures { λ r. ⌜ r ≡ every n (λ c. every processes (λ p. leZ (getD (now (whole .entry)) (c * processes + p) (pos 0)) (pos mostBatches))) ⌝ }
 {
     let mut c = 0;
     while c < n {
