@@ -7,6 +7,8 @@ use river::River;
 
 pub(crate) const BYTES: usize = River::CELLS_MOST * Record::CELL_BYTES;
 
+const CELL_BYTES: u64 = Record::CELL_BYTES as u64;
+
 pub(crate) const ALL_BYTES: usize = RIVERS * BYTES;
 
 fn copy_text(texts: &mut [u8; ALL_BYTES], at: usize, text: &[u8; BYTES])
@@ -40,7 +42,7 @@ fn wide(x: u8) -> u64 {
 // The checksum with one byte of each cell.
 pub(crate) fn with_text(sum: u64, text: &[u8; BYTES], turn: u64) -> u64 {
     let mut with_all = sum;
-    let mut k = (turn % Record::CELL_BYTES as u64) as usize;
+    let mut k = (turn % CELL_BYTES) as usize;
     while k < BYTES {
         with_all = with(with_all, wide(text[k]));
         k += Record::CELL_BYTES;

@@ -1,10 +1,12 @@
 // What two cells hold, by names: the level of each substance that has one, in g/m³.
 ghost use Prim.Native.Nat.{_<_};
+ghost use Rattle.stoichiometry.specs.Substances.{substances};
 use libc::STDOUT_FILENO;
 use numeric::magnitude;
 use river::AMOUNTS;
 use stoichiometry::SUBSTANCES;
 use stoichiometry::Set;
+use stoichiometry::place;
 
 // How much of an amount is a µg: of an organic 1, of the others as many grains.
 const ORGANIC: u64 = 1;
@@ -30,33 +32,33 @@ fn write_grams(micrograms: u64) {
     io::write_all(STDOUT_FILENO, &[b'.', tenths, hundredths, thousandths]);
 }
 
-// A line: the name of the substance at a place from 0, and its level in each cell. No such amount is below zero.
-fn write_level(name: &[u8], amounts: &[i64; AMOUNTS], place: usize, microgram: u64)
-    requires { ⌜ (place < 18) × (0 < microgram) ⌝ }
+// A line: the name of the substance at a place, and its level in each cell. No such amount is below zero.
+fn write_level(name: &[u8], amounts: &[i64; AMOUNTS], at: usize, microgram: u64)
+    requires { ⌜ (at < substances) × (0 < microgram) ⌝ }
 {
     io::write_all(STDOUT_FILENO, name);
-    write_grams(magnitude(amounts[place]) / microgram);
-    write_grams(magnitude(amounts[SUBSTANCES + place]) / microgram);
+    write_grams(magnitude(amounts[at]) / microgram);
+    write_grams(magnitude(amounts[SUBSTANCES + at]) / microgram);
     io::write_all(STDOUT_FILENO, b"\n");
 }
 
 // A line for each substance that has a level. The nitrogen is in g of N, the phosphate in g of P.
 pub(crate) fn write_levels(amounts: &[i64; AMOUNTS]) {
     io::write_all(STDOUT_FILENO, b"g/m3      cell 1    cell 2\n");
-    write_level(b"SS    ", amounts, 0, ORGANIC);
-    write_level(b"SI    ", amounts, 1, ORGANIC);
-    write_level(b"NH4-N ", amounts, 2, N);
-    write_level(b"NO2-N ", amounts, 3, N);
-    write_level(b"NO3-N ", amounts, 4, N);
-    write_level(b"PO4-P ", amounts, 5, P);
-    write_level(b"O2    ", amounts, 6, O);
-    write_level(b"XH    ", amounts, 9, ORGANIC);
-    write_level(b"XN1   ", amounts, 10, ORGANIC);
-    write_level(b"XN2   ", amounts, 11, ORGANIC);
-    write_level(b"XALG  ", amounts, 12, ORGANIC);
-    write_level(b"XS    ", amounts, 13, ORGANIC);
-    write_level(b"XI    ", amounts, 14, ORGANIC);
-    write_level(b"XP    ", amounts, 15, P);
+    write_level(b"SS    ", amounts, place::SS, ORGANIC);
+    write_level(b"SI    ", amounts, place::SI, ORGANIC);
+    write_level(b"NH4-N ", amounts, place::NH4, N);
+    write_level(b"NO2-N ", amounts, place::NO2, N);
+    write_level(b"NO3-N ", amounts, place::NO3, N);
+    write_level(b"PO4-P ", amounts, place::HPO4, P);
+    write_level(b"O2    ", amounts, place::O2, O);
+    write_level(b"XH    ", amounts, place::XH, ORGANIC);
+    write_level(b"XN1   ", amounts, place::XN1, ORGANIC);
+    write_level(b"XN2   ", amounts, place::XN2, ORGANIC);
+    write_level(b"XALG  ", amounts, place::XALG, ORGANIC);
+    write_level(b"XS    ", amounts, place::XS, ORGANIC);
+    write_level(b"XI    ", amounts, place::XI, ORGANIC);
+    write_level(b"XP    ", amounts, place::XP, P);
 }
 
 // The line of the letters, below the levels.
