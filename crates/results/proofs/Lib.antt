@@ -1,2 +1,3 @@
--- The results.
+-- A law of tables of cases; the results.
+pub mod CaseLaws
 pub mod Results
