@@ -1,3 +1,2 @@
--- A law of tables of cases; the results.
-pub mod CaseLaws
+-- The results.
 pub mod Results

@@ -12,6 +12,7 @@ use Rattle.numeric.specs.Case.{AllHold}
 use Rattle.numeric.specs.Check.{every, allOf, firstHolding}
 use Rattle.numeric.specs.Sum.{sum}
 use Rattle.numeric.specs.Table.{tab}
+use Rattle.numeric.proofs.CaseLaws.{all-hold}
 use Rattle.stoichiometry.specs.declared.HalfSaturations.{HalfSaturations}
 use Rattle.stoichiometry.specs.declared.RateConstants.{RateConstants}
 use Rattle.stoichiometry.specs.declared.Set.{Set}
@@ -48,7 +49,6 @@ use Rattle.record_reading.specs.Records.{IsRecordOf}
 use Rattle.record_reading.proofs.RecordLaws.{read-unique}
 use Rattle.record_reading.proofs.RecordTexts.{read-is-record, read-else-refused}
 use Rattle.results.specs.Starred.{starred}
-use Rattle.results.proofs.CaseLaws.{all-hold}
 
 -- Demand 3: a fresh river of 1 to 8 cells is answered, and after every list of loads, flows, air exchanges and steps on
 -- it under an accepted set, the river is in its bounds, and each total that cells i to j hold is what their book says.
