@@ -20,7 +20,7 @@ use Rattle.stoichiometry.specs.Substances.{substances}
 use Rattle.stoichiometry.specs.Rows.{processes}
 use Rattle.kinetics.specs.declared.Conditions.{Conditions}
 use Rattle.river.specs.declared.River.{River}
-use Rattle.river.specs.Rivers.{mostCells, amountFits, amountsFit, carriesFit, riverWrong, zeroRiver}
+use Rattle.river.specs.Rivers.{mostCells, amountFits, amountsFit, carriesFit, riverWrong, zeroRiver, mostCarry}
 use Rattle.transport.specs.Load.{withAmount}
 use Rattle.transport.specs.Flow.{movedOf}
 use Rattle.river.proofs.Rivers.{river-cells, river-amounts, river-carries, river-right, zero-right}
@@ -76,8 +76,8 @@ sound-amount n r sound c s x h l e =
     (sound-carries n r sound)
 
 -- A carry after a step is a remainder, and 0 beyond the last cell.
-carry-case : (x : ℕ) (b : Bool) → cond b (leb (cond b (x % 1000000) 0) 999999) (eqb (cond b (x % 1000000) 0) 0) ≡ true
-carry-case x true = le-leb (x % 1000000) 999999 (omega arith)
+carry-case : (x : ℕ) (b : Bool) → cond b (leb (cond b (x % 1000000) 0) mostCarry) (eqb (cond b (x % 1000000) 0) 0) ≡ true
+carry-case x true = le-leb (x % 1000000) mostCarry (omega arith)
 carry-case x false = refl
 
 module _ (set : Set) (given : Conditions) where

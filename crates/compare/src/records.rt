@@ -6,7 +6,7 @@ use crate::digest::of_river;
 use crate::digest::with;
 use crate::digest::with_bytes;
 use crate::line::Line;
-use record::CELL_BYTES;
+use record::Record;
 use river::Changed;
 use river::River;
 
@@ -28,7 +28,7 @@ fn within_room(n: usize) -> usize
 fn record_length(number: u32, cells: u32) -> usize {
     if number == 0 {
         if cells <= 8 {
-            return cells as usize * CELL_BYTES;
+            return cells as usize * Record::CELL_BYTES;
         }
     }
     0

@@ -2,9 +2,10 @@
 // more than the longest record has is enough to know that an input is none.
 use libc::STDIN_FILENO;
 use libc::STDOUT_FILENO;
-use river::CELLS;
+use record::Record;
+use river::River;
 
-const LONGEST: usize = CELLS * record::CELL_BYTES;
+const LONGEST: usize = River::CELLS_MOST * Record::CELL_BYTES;
 
 fn main() {
     let mut text = [0; LONGEST + 1];
@@ -16,7 +17,7 @@ fn main() {
     let number = read.number;
     if number == 0 {
         if record::write_record(river, &mut output, &mut work) == 0 {
-            let bytes = river.cells as usize * record::CELL_BYTES;
+            let bytes = river.cells as usize * Record::CELL_BYTES;
             if bytes <= LONGEST {
                 io::write_all(STDOUT_FILENO, &output[0..bytes]);
             }

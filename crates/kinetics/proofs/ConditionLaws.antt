@@ -9,6 +9,7 @@ use Rattle.kinetics.specs.declared.Temperatures.{Temperatures}
 use Rattle.kinetics.specs.declared.Conditions.{Conditions}
 use Rattle.kinetics.specs.Conditions.{temperaturesFit, conditionsWrong}
 use Rattle.kinetics.specs.Ranges.{ConditionsFit}
+use Rattle.stoichiometry.specs.Limits.{mostSeconds}
 
 -- Two checks that are both met.
 both : {a b : Bool} → a && b ≡ true → (a ≡ true) × (b ≡ true)
@@ -29,13 +30,13 @@ temperatures-fit t e =
 pub conditions-fit : (given : Conditions) → conditionsWrong given ≡ false → ConditionsFit given
 unfolding conditionsWrong
 conditions-fit given e =
-    let timed = leb 1 (given .seconds) && leb (given .seconds) 3600 in
+    let timed = leb 1 (given .seconds) && leb (given .seconds) mostSeconds in
     let temperatures = both {a = timed && leb (given .light) 1000000} {b = temperaturesFit (given .temperatures)} (not-false _ e) in
     let light = both {a = timed} (temperatures .0) in
     let seconds = both {a = leb 1 (given .seconds)} (light .0) in
     let t = temperatures-fit (given .temperatures) (temperatures .1) in
     record {
-      seconds = leb-true (given .seconds) 3600 (seconds .1);
+      seconds = leb-true (given .seconds) mostSeconds (seconds .1);
       light = leb-true (given .light) 1000000 (light .1);
       xh = t .0;
       xn1 = t .1;

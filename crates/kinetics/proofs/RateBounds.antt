@@ -14,13 +14,16 @@ use Rattle.numeric.specs.Check.{allOf}
 use Rattle.numeric.proofs.CheckLaws.{and-left, and-right, allOf-at}
 use Rattle.numeric.proofs.TableLaws.{AtMost, done, _also_, at-most-at}
 use Rattle.stoichiometry.specs.declared.Set.{Set}
+use Rattle.stoichiometry.specs.Substances.{mostGrains, mostOrganic}
 use Rattle.stoichiometry.specs.Substances.{Organic, organic, nh4, no2, no3, hpo4, o2, xp, ss, xh, xn1, xn2, xalg, xs, place}
 use Rattle.stoichiometry.specs.Parameters.{inRange, yieldList, inertList, rateList, halfList, yieldsFit, constantsFit, figuresWrong}
 use Rattle.stoichiometry.specs.Rows.{processes, noProcess, processesOf, processAt}
+use Rattle.stoichiometry.specs.Levels.{levelOf}
 use Rattle.kinetics.specs.declared.Conditions.{Conditions}
 use Rattle.kinetics.specs.Factors.{monod, inhibition}
 use Rattle.kinetics.specs.Rates.{Levels, levelsOf, takesPhosphate, takesNitrogen, productsOf, constantsOf, drivenBy, quota, extent}
 use Rattle.kinetics.specs.Ranges.{ConditionsFit, mostLevel, LevelsFit}
+use Rattle.stoichiometry.specs.Limits.{mostSeconds}
 use Rattle.kinetics.proofs.FactorLaws.{monod-bound, inhibition-bound, last, _then_, only-then, only-two-then, product-bound}
 
 -- What a list of figures that are all in a range says of each.
@@ -91,10 +94,10 @@ module _ (set : Set) (fits : figuresWrong set ≡ false) where
       (allOf-at (λ q. leb 1 (q .batch)) (processesOf set) p noProcess batches-fit (unfold processesOf in h))
 
 -- Levels of amounts in their bounds: organics to 10^9 µg, the others to 10^16 grains.
-pub levels-bound : (amount : ℕ → ℤ) → ((x : Organic) → natAbs (amount (place (organic x))) ≤ 1000000000)
-    → AtMost (λ s. natAbs (amount (place s))) 10000000000000000 (nh4 ∷ no2 ∷ no3 ∷ hpo4 ∷ o2 ∷ xp ∷ [])
+pub levels-bound : (amount : ℕ → ℤ) → ((x : Organic) → natAbs (amount (place (organic x))) ≤ mostOrganic)
+    → AtMost (λ s. natAbs (amount (place s))) mostGrains (nh4 ∷ no2 ∷ no3 ∷ hpo4 ∷ o2 ∷ xp ∷ [])
     → LevelsFit (levelsOf amount)
-unfolding levelsOf
+unfolding levelsOf levelOf
 levels-bound amount organics (n also m also k also p also o also x also done) =
     record {
       ss = omega (arith, organics ss);
@@ -156,7 +159,7 @@ pub products-bound : (set : Set) (given : Conditions) (l : Levels) → Condition
 products-bound set given l fits p = at-most-at (products-fit set given l fits) 0 (lit≤ tt) p
 
 -- q is at most 3,333,333,333.
-pub quota-bound : {k p seconds : ℕ} → k ≤ 20000 → p ≤ 4000000 → seconds ≤ 3600 → quota k p seconds ≤ 3333333333
+pub quota-bound : {k p seconds : ℕ} → k ≤ 20000 → p ≤ 4000000 → seconds ≤ mostSeconds → quota k p seconds ≤ 3333333333
 unfolding quota
 quota-bound h k l = omega (arith, mul-le-mul (mul-le-mul h k) l)
 

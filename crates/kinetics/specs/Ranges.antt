@@ -3,10 +3,11 @@
 use Prim.Native.Nat.{ℕ, _≤_}
 use Rattle.kinetics.specs.declared.Conditions.{Conditions}
 use Rattle.kinetics.specs.Rates.{Levels}
+use Rattle.stoichiometry.specs.Limits.{mostSeconds}
 
 -- Seconds at most 3,600, light at most 10^6, temperature factors at most 4,000,000.
 pub record ConditionsFit (given : Conditions) : Type 0 where
-  pub seconds : given .seconds ≤ 3600
+  pub seconds : given .seconds ≤ mostSeconds
   pub light : given .light ≤ 1000000
   pub xh : given .temperatures .xh ≤ 4000000
   pub xn1 : given .temperatures .xn1 ≤ 4000000

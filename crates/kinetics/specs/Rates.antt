@@ -4,15 +4,17 @@ use Prim.Native.Nat.{ℕ, _+_, _*_, _/_}
 use mathlib.Core.Bool.{Bool, cond}
 use mathlib.Core.List.{List, [], _∷_, _++_}
 use lib.ListN.{getD}
-use lib.IntN.{ℤ, pos, natAbs}
+use lib.IntN.{ℤ, pos}
 use lib.Signed.{ltZ}
 use Rattle.stoichiometry.specs.declared.Set.{Set}
-use Rattle.stoichiometry.specs.Substances.{organic, ss, xh, xn1, xn2, xalg, xs, nh4, no2, no3, hpo4, o2, xp, place, grainsPerMicrogramO, grainsPerMicrogramN, grainsPerMicrogramP}
+use Rattle.stoichiometry.specs.Substances.{Substance, organic, ss, xh, xn1, xn2, xalg, xs, nh4, no2, no3, hpo4, o2, xp, place}
+use Rattle.stoichiometry.specs.Levels.{levelOf}
 use Rattle.stoichiometry.specs.Rows.{released, processAt, rowEntry}
 use Rattle.kinetics.specs.declared.Conditions.{Conditions}
 use Rattle.kinetics.specs.Factors.{monod, inhibition, product}
+use Rattle.stoichiometry.specs.Limits.{secondsPerDay}
 
--- The levels of one cell, µg: dissolved substances, and XP, in grains divided by W, rounded down; organics as they are.
+-- The levels of one cell, µg.
 pub record Levels : Type 0 where
   pub ss : ℕ
   pub nh4 : ℕ
@@ -30,19 +32,20 @@ pub record Levels : Type 0 where
 -- The levels of a cell with these amounts by place.
 unfoldable pub levelsOf : (ℕ → ℤ) → Levels
 levelsOf amount =
+    let of : Substance → ℕ = λ s. levelOf s (amount (place s)) in
     record {
-      ss = natAbs (amount (place (organic ss)));
-      nh4 = natAbs (amount (place nh4)) / grainsPerMicrogramN;
-      no2 = natAbs (amount (place no2)) / grainsPerMicrogramN;
-      no3 = natAbs (amount (place no3)) / grainsPerMicrogramN;
-      hpo4 = natAbs (amount (place hpo4)) / grainsPerMicrogramP;
-      o2 = natAbs (amount (place o2)) / grainsPerMicrogramO;
-      xh = natAbs (amount (place (organic xh)));
-      xn1 = natAbs (amount (place (organic xn1)));
-      xn2 = natAbs (amount (place (organic xn2)));
-      xalg = natAbs (amount (place (organic xalg)));
-      xs = natAbs (amount (place (organic xs)));
-      xp = natAbs (amount (place xp)) / grainsPerMicrogramP;
+      ss = of (organic ss);
+      nh4 = of nh4;
+      no2 = of no2;
+      no3 = of no3;
+      hpo4 = of hpo4;
+      o2 = of o2;
+      xh = of (organic xh);
+      xn1 = of (organic xn1);
+      xn2 = of (organic xn2);
+      xalg = of (organic xalg);
+      xs = of (organic xs);
+      xp = of xp;
     }
 
 -- A factor that stands only under a condition.
@@ -102,7 +105,7 @@ drivenBy l =
 
 -- q = k × p × seconds / 86,400, rounded down.
 unfoldable pub quota : ℕ → ℕ → ℕ → ℕ
-quota k p seconds = k * p * seconds / 86400
+quota k p seconds = k * p * seconds / secondsPerDay
 
 -- The extent in millionths of a batch: X × q / (1,000 × b), rounded down.
 unfoldable pub extent : ℕ → ℕ → ℕ → ℕ

@@ -3,6 +3,7 @@
 ghost use mathlib.Core.Path.{_≡_};
 ghost use Rattle.kinetics.specs.Conditions.{temperaturesFit, conditionsWrong};
 use numeric::both;
+use stoichiometry::Seconds;
 
 // Temperature factors, millionths: of XH, XN1, XN2, XALG and hydrolysis.
 pub struct Temperatures {
@@ -13,6 +14,10 @@ pub struct Temperatures {
     pub hydrolysis: u32,
 }
 
+impl Temperatures {
+    pub const MOST: u32 = 4000000;
+}
+
 // What a step is given besides the set and the river: seconds, light in millionths, temperature factors.
 pub struct Conditions {
     pub seconds: u32,
@@ -21,18 +26,13 @@ pub struct Conditions {
 }
 
 impl Conditions {
-    // The most of seconds, of light and of a temperature factor, both in millionths.
-    pub const SECONDS_MOST: u32 = 3600;
-
     pub const LIGHT_MOST: u32 = 1000000;
-
-    pub const TEMPERATURE_MOST: u32 = 4000000;
 }
 
 fn temperatures_fit(t: Temperatures) -> bool
     ensures { λ r. ⌜ r ≡ temperaturesFit t ⌝ }
 {
-    let most = Conditions::TEMPERATURE_MOST;
+    let most = Temperatures::MOST;
     both(
         both(
             both(both(t.xh <= most, t.xn1 <= most), t.xn2 <= most),
@@ -47,8 +47,8 @@ pub fn conditions_wrong(given: Conditions) -> bool
     ensures answer { λ r. ⌜ r ≡ conditionsWrong given ⌝ }
 {
     let seconds = both(
-        1 <= given.seconds,
-        given.seconds <= Conditions::SECONDS_MOST,
+        Seconds::LEAST <= given.seconds,
+        given.seconds <= Seconds::MOST,
     );
     let light = given.light <= Conditions::LIGHT_MOST;
     !both(both(seconds, light), temperatures_fit(given.temperatures))

@@ -1,5 +1,6 @@
 -- Laws by subject: differences and expressions of integers, the ring normaliser, bounds, quotients, comparisons, what
--- fits 64 bits, machine expressions, joined bits, sizes, tables, filling loops, sums, checks.
+-- fits 64 bits, machine expressions, joined bits, sizes, tables, filling loops, sums, checks, tables
+-- of cases.
 pub mod Difference
 pub mod Expression
 pub mod RingLaws
@@ -15,3 +16,4 @@ pub mod TableLaws
 pub mod Filling
 pub mod SumLaws
 pub mod CheckLaws
+pub mod CaseLaws

@@ -11,6 +11,7 @@ use Rattle.numeric.specs.Check.{firstHolding}
 use Rattle.probe.specs.declared.Frame.{Frame}
 use Rattle.probe.specs.Readings.{readingFits, scaledFloor}
 use Rattle.probe.specs.Frames.{oxygenFits, frameFits, frameNumber, frameAmounts, refusedFrame, frameAnswer}
+use Rattle.stoichiometry.specs.Limits.{mostSaturation}
 use Rattle.probe.proofs.ReadingLaws.{floor-bound}
 
 -- What it says that a frame fits.
@@ -35,23 +36,23 @@ frame-fits f h =
     record { ammonium = one .0; nitrite = one .1; nitrate = two .1; phosphate = three .1; oxygen = four .1 }
 
 -- A floor times the grains of a µg is far below 2 ^ 63.
-pub grains-bound : (x : Float) (c d w : ℕ) → readingFits x ≡ true → 0 < d → c ≤ 20000000 → w ≤ 22320000
+pub grains-bound : (x : Float) (c d w : ℕ) → readingFits x ≡ true → 0 < d → c ≤ mostSaturation → w ≤ 22320000
     → scaledFloor x c d * w ≤ 114278400000000000
 grains-bound x c d w fits D C W =
     let most : 256 * c ≤ 5120000000 = omega arith in
     mul-le-mul (le-trans (floor-bound x c d fits D) most) W
 
 -- The answer of a frame, by the checks.
-pub saturation-refused : (f : Frame) (saturation : ℕ) → ltb 20000000 saturation ≡ true → frameAnswer f saturation ≡ refusedFrame 6
+pub saturation-refused : (f : Frame) (saturation : ℕ) → ltb mostSaturation saturation ≡ true → frameAnswer f saturation ≡ refusedFrame 6
 unfolding frameAnswer frameNumber firstHolding
 saturation-refused f saturation high = rw high refl
 
-pub frame-refused : (f : Frame) (saturation : ℕ) → ltb 20000000 saturation ≡ false → frameFits f ≡ false
+pub frame-refused : (f : Frame) (saturation : ℕ) → ltb mostSaturation saturation ≡ false → frameFits f ≡ false
     → frameAnswer f saturation ≡ refusedFrame 9
 unfolding frameAnswer frameNumber firstHolding
 frame-refused f saturation low wrong = rw (low, wrong) refl
 
-pub frame-accepted : (f : Frame) (saturation : ℕ) → ltb 20000000 saturation ≡ false → frameFits f ≡ true
+pub frame-accepted : (f : Frame) (saturation : ℕ) → ltb mostSaturation saturation ≡ false → frameFits f ≡ true
     → frameAnswer f saturation ≡ frameAmounts f saturation
 unfolding frameAnswer frameNumber firstHolding
 frame-accepted f saturation low right = rw (low, right) refl

@@ -16,6 +16,7 @@ use lib.Ieee.Bits.{ofBits-toBits}
 use lib.Ieee.Exact.{HasValue, odd-sign}
 use lib.Ieee.Nearest.{div-same}
 use Rattle.probe.specs.Readings.{readingFits, scaledFloor}
+use Rattle.stoichiometry.specs.Limits.{mostSaturation}
 
 holds : {b : Bool} → b ≡ true → T b
 holds h = subst T (sym h) tt
@@ -58,7 +59,7 @@ low-field n k N h =
 grows : (p d : ℕ) → 0 < d → p ≤ p * d
 grows p d D = omega (arith, mul-le-mul-left p D)
 
-tiny : (t c : ℕ) → t < 8388608 → c ≤ 20000000 → t * 1 * c < 2 ^ 149
+tiny : (t c : ℕ) → t < 8388608 → c ≤ mostSaturation → t * 1 * c < 2 ^ 149
 tiny t c T C = lt-of-le-of-lt (mul-le-mul (mul-le-mul (le-of-lt T) (le-refl 1)) C) (lit< tt)
 
 -- What the exponent's field f and the digits t say of the float x.
@@ -82,7 +83,7 @@ unfolding readingFits
 no-end s true w = w
 no-end s false w = w
 
-by-field : (s : Bool) (f t c d : ℕ) → t < 8388608 → c ≤ 20000000 → 0 < d → T (readingFits (ofFields binary32 s f t)) → Fields (ofFields binary32 s f t) f t c d
+by-field : (s : Bool) (f t c d : ℕ) → t < 8388608 → c ≤ mostSaturation → 0 < d → T (readingFits (ofFields binary32 s f t)) → Fields (ofFields binary32 s f t) f t c d
 unfolding ofFields
 by-field s zero t c d H C D u = record {
   high = zero-le;
@@ -106,7 +107,7 @@ by-field s (suc k) t c d H C D u = pick (eqb (suc k) 255) u
         }
 
 -- The float that a pattern's fields make is the one whose pattern it is.
-pub fields-of : (x : Float) (c d : ℕ) → T (fits binary32 x) → readingFits x ≡ true → c ≤ 20000000 → 0 < d
+pub fields-of : (x : Float) (c d : ℕ) → T (fits binary32 x) → readingFits x ≡ true → c ≤ mostSaturation → 0 < d
     → Fields x (toBits binary32 x % 2147483648 / 8388608) (toBits binary32 x % 8388608) c d
 fields-of x c d F U C D =
     let b = toBits binary32 x in
@@ -114,7 +115,7 @@ fields-of x c d F U C D =
     subst (λ (y : Float). Fields y (b % 2147483648 / 8388608) (b % 8388608) c d) e
     (by-field (leb 2147483648 b) (b % 2147483648 / 8388608) (b % 8388608) c d (mod-lt b (lit< tt)) C D (holds (ap readingFits e ∙ U)))
 
-pub fits-64 : (n c : ℕ) → n < 8388608 → c ≤ 20000000 → (8388608 + n) * c < 2 ^ 64
+pub fits-64 : (n c : ℕ) → n < 8388608 → c ≤ mostSaturation → (8388608 + n) * c < 2 ^ 64
 fits-64 n c N C = lt-of-le-of-lt (mul-le-mul (add-le N) C) (lit< tt)
   where
     add-le : n < 8388608 → 8388608 + n ≤ 16777216

@@ -15,6 +15,7 @@ use Rattle.probe.specs.declared.Oxygen.the-variants.{Mass, Percent, Miss
 use Rattle.probe.specs.declared.OxygenAmount.{OxygenAmount}
 use Rattle.probe.specs.declared.OxygenAmount.the-variants.{Grains, Missing as NoAmount}
 use Rattle.probe.specs.Readings.{readingFits, scaledFloor}
+use Rattle.stoichiometry.specs.Limits.{mostSaturation}
 
 -- A mass, g/m³, in µg: the exact value × 10^6, rounded down.
 abbrev pub massMicrograms : Float → ℕ
@@ -47,7 +48,7 @@ frameFits f =
 
 -- The number of a frame: 6 before 9.
 unfoldable pub frameNumber : Frame → ℕ → ℕ
-frameNumber f saturation = firstHolding (6 when ltb 20000000 saturation ∷ 9 when not (frameFits f) ∷ [])
+frameNumber f saturation = firstHolding (6 when ltb mostSaturation saturation ∷ 9 when not (frameFits f) ∷ [])
 
 -- The amounts of the frame's readings, grains.
 abbrev pub frameAmounts : Frame → ℕ → Amounts

@@ -4,6 +4,8 @@ ghost use mathlib.Core.Path.{_≡_};
 ghost use mathlib.Core.Bool.{true};
 ghost use Prim.Native.Nat.{_*_, _≤_};
 ghost use lib.IntN.{pos};
+ghost use Rattle.stoichiometry.specs.Limits.{mostSaturation};
+ghost use Rattle.stoichiometry.specs.Substances.{grainsPerMicrogramN};
 ghost use Rattle.probe.specs.Readings.{readingFits, scaledFloor};
 ghost use Rattle.probe.specs.Frames.{oxygenFits, oxygenAmount, frameFits, frameAmounts, refusedFrame};
 use crate::Amounts;
@@ -14,6 +16,7 @@ use crate::readings::reading_fits;
 use crate::readings::scaled_floor;
 use numeric::both;
 use stoichiometry::Set;
+use stoichiometry::refusal;
 
 // Masses are in g, amounts go by µg.
 const PER_GRAM: u64 = 1000000;
@@ -29,7 +32,7 @@ const PHOSPHORUS: u64 = Set::GRAINS_PER_MICROGRAM_P as u64;
 
 // Grains of a reading: its exact value times numerator / denominator, rounded down to µg; weight: grains in one µg.
 fn grains(x: f32, numerator: u64, denominator: u64, weight: u64) -> i64
-    requires { ⌜ (readingFits x ≡ true) × (numerator ≤ 20000000) × (1 ≤ denominator) × (weight ≤ 22320000) ⌝ }
+    requires { ⌜ (readingFits x ≡ true) × (numerator ≤ mostSaturation) × (1 ≤ denominator) × (weight ≤ grainsPerMicrogramN) ⌝ }
     ensures { λ r. ⌜ r ≡ pos (scaledFloor x numerator denominator * weight) ⌝ }
 {
     (scaled_floor(x, numerator, denominator) * weight) as i64
@@ -46,7 +49,7 @@ fn oxygen_fits(oxygen: Oxygen) -> bool
 }
 
 fn oxygen_amount(oxygen: Oxygen, saturation: u32) -> OxygenAmount
-    requires { ⌜ (oxygenFits oxygen ≡ true) × (saturation ≤ 20000000) ⌝ }
+    requires { ⌜ (oxygenFits oxygen ≡ true) × (saturation ≤ mostSaturation) ⌝ }
     ensures { λ r. ⌜ r ≡ oxygenAmount oxygen saturation ⌝ }
 {
     match oxygen {
@@ -73,12 +76,12 @@ pub(crate) fn frame_fits(frame: Frame) -> bool
 
 // The amounts of a frame whose readings fit.
 pub(crate) fn amounts(frame: Frame, saturation: u32) -> Amounts
-    requires { ⌜ (frameFits frame ≡ true) × (saturation ≤ 20000000) ⌝ }
+    requires { ⌜ (frameFits frame ≡ true) × (saturation ≤ mostSaturation) ⌝ }
     ensures { λ r. ⌜ r ≡ frameAmounts frame saturation ⌝ }
 {
     let oxygen = frame.oxygen;
     Amounts {
-        number: 0,
+        number: refusal::NONE,
         ammonium: grains(frame.ammonium, PER_GRAM, 1, NITROGEN),
         nitrite: grains(frame.nitrite, PER_GRAM, 1, NITROGEN),
         nitrate: grains(frame.nitrate, PER_GRAM, 1, NITROGEN),

@@ -4,7 +4,8 @@ ghost use Rattle.probe.specs.Frames.{frameAnswer};
 use crate::frames::amounts;
 use crate::frames::frame_fits;
 use crate::frames::refused;
-use river::River;
+use stoichiometry::Saturation;
+use stoichiometry::refusal;
 
 mod frames;
 mod readings;
@@ -23,6 +24,11 @@ pub struct Frame {
     pub nitrate: f32,
     pub phosphate: f32,
     pub oxygen: Oxygen,
+}
+
+impl Frame {
+    // A reading is below it.
+    pub const READING_END: f32 = 256.0;
 }
 
 // The amount of O2, grains, or the mark of a missing reading.
@@ -46,12 +52,12 @@ pub struct Amounts {
 pub fn amounts_of(frame: Frame, saturation: u32) -> Amounts
     ensures answer { λ r. ⌜ r ≡ frameAnswer frame saturation ⌝ }
 {
-    if saturation > River::SATURATION_MOST {
-        return refused(6);
+    if saturation > Saturation::MOST {
+        return refused(refusal::CONDITIONS);
     }
     if frame_fits(frame) {
         amounts(frame, saturation)
     } else {
-        refused(9)
+        refused(refusal::READING)
     }
 }

@@ -2,7 +2,9 @@
 ghost use mathlib.Core.Path.{_≡_};
 ghost use mathlib.Core.Bool.{true};
 ghost use Prim.Native.Nat.{_≤_};
+ghost use Rattle.stoichiometry.specs.Limits.{mostSaturation};
 ghost use Rattle.probe.specs.Readings.{readingFits, scaledFloor};
+use crate::Frame;
 
 // The f32 format: 23 bits of digits, then 8 of the exponent's field, then the sign. A normal number is
 // (DIGITS + digits) × 2 ^ (field − FIELD_OF_ONE_DIGIT); with field 0 it is below 2 ^ −126.
@@ -16,12 +18,16 @@ const FIELD_OF_ONE_DIGIT: u64 = 150;
 pub(crate) fn reading_fits(x: f32) -> bool
     ensures { λ r. ⌜ r ≡ readingFits x ⌝ }
 {
-    if x >= 0.0 { x < 256.0 } else { false }
+    if x >= 0.0 {
+        x < Frame::READING_END
+    } else {
+        false
+    }
 }
 
 // The exact value of x times numerator / denominator, rounded down. Readings of field 0 give less than one.
 pub(crate) fn scaled_floor(x: f32, numerator: u64, denominator: u64) -> u64
-    requires { ⌜ (readingFits x ≡ true) × (numerator ≤ 20000000) × (1 ≤ denominator) ⌝ }
+    requires { ⌜ (readingFits x ≡ true) × (numerator ≤ mostSaturation) × (1 ≤ denominator) ⌝ }
     ensures { λ r. ⌜ r ≡ scaledFloor x numerator denominator ⌝ }
 {
     let bits = f32::to_bits(x) as u64;

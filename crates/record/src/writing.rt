@@ -7,10 +7,7 @@ ghost use Rattle.river.specs.Rivers.{mostCells};
 ghost use Rattle.text.specs.Writes.{put};
 ghost use Rattle.record.specs.Lines.{front, line, cellText, recordText, valueOf, lines, lineBytes, cellBytes};
 ghost use Rattle.record.specs.Stages.{lineNumbers};
-use crate::CELL_BYTES;
-use crate::LINE_BYTES;
-use crate::LINES;
-use crate::VALUE_COLUMNS;
+use crate::Record;
 use river::AMOUNTS;
 use river::CARRIES;
 use stoichiometry::PROCESSES;
@@ -19,7 +16,7 @@ use text::write_decimal;
 use text::write_two;
 
 // Bytes of the numbers of all lines of a cell.
-const NUMBER_BYTES: usize = LINES * 2;
+const NUMBER_BYTES: usize = Record::LINES * 2;
 
 // The numbers of the lines of a cell, from 1, in two columns each. They are the same in every cell.
 fn line_numbers() -> [u8; NUMBER_BYTES]
@@ -27,7 +24,7 @@ fn line_numbers() -> [u8; NUMBER_BYTES]
 {
     let mut numbers = [0; NUMBER_BYTES];
     let mut k = 0;
-    while k < LINES {
+    while k < Record::LINES {
         write_two(&mut numbers, k * 2, (k + 1) as u32);
         k += 1;
     }
@@ -61,11 +58,11 @@ fn write_line(
     requires { ⌜ (k < lines) × (at + lineBytes ≤ length (now out)) × (now numbers ≡ lineNumbers lines) ⌝ }
     ensures { λ _. ⌜ now (out .exit) ≡ put (now (out .entry)) at (line cell (k + 1) value) ⌝ }
 {
-    let end = at + LINE_BYTES;
+    let end = at + Record::LINE_BYTES;
     let line = &mut out[at..end];
     write_front(line, cell, numbers, k);
-    write_decimal(line, 6, VALUE_COLUMNS, value);
-    line[26] = b'\n';
+    write_decimal(line, Record::VALUE_START, Record::VALUE_COLUMNS, value);
+    line[Record::LINE_FEED] = b'\n';
 }
 
 fn wide(x: u32) -> i64
@@ -96,12 +93,12 @@ fn write_cell(
     requires { ⌜ (c < mostCells) × (c * cellBytes + cellBytes ≤ length (now out)) × (now numbers ≡ lineNumbers lines) ⌝ }
     ensures { λ _. ⌜ now (out .exit) ≡ put (now (out .entry)) (c * cellBytes) (cellText lines (valueOf (now (amounts .entry)) (now (carries .entry))) c) ⌝ }
 {
-    let start = c * CELL_BYTES;
+    let start = c * Record::CELL_BYTES;
     let cell = (c + 1) as u32;
     let mut k = 0;
-    while k < LINES {
+    while k < Record::LINES {
         let value = value_at(amounts, carries, c, k);
-        write_line(out, start + k * LINE_BYTES, cell, numbers, k, value);
+        write_line(out, start + k * Record::LINE_BYTES, cell, numbers, k, value);
         k += 1;
     }
 }

@@ -25,6 +25,7 @@ use Rattle.text_reading.proofs.ReadingLaws.{parse-decimal, parse-only}
 use Rattle.record.specs.Lines.{lineBytes, front, line}
 use Rattle.record_reading.specs.Reading.{sameBytes, lineNumber}
 use Rattle.record.proofs.LineLaws.{front-length, front-bytes}
+use Rattle.stoichiometry.specs.Substances.{mostNet}
 
 -- A text is the same as itself.
 pub same-refl : (xs : List ℕ) → sameBytes xs xs ≡ true
@@ -65,7 +66,7 @@ line-parts cell k z = parts (front cell k) (decimal 20 z) 10 (front-length cell 
 
 -- A line is read as its value.
 pub line-number : (cell k : ℕ) (z lowest highest : ℤ) → leZ lowest z ≡ true → leZ z highest ≡ true
-    → natAbs z ≤ 1000000000000000000 → lineNumber (line cell k z) cell k lowest highest ≡ accepted z
+    → natAbs z ≤ mostNet → lineNumber (line cell k z) cell k lowest highest ≡ accepted z
 unfolding lineNumber
 line-number cell k z lowest highest from to small =
     let read : parse lowest highest (part 6 20 (line cell k z)) ≡ accepted z =

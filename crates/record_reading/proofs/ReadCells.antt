@@ -14,11 +14,12 @@ use Rattle.numeric.proofs.Bounds.{abs-from, abs-of-nonneg}
 use Rattle.numeric.proofs.CheckLaws.{row-beyond}
 use Rattle.numeric.proofs.Comparison.{leZ-true}
 use Rattle.numeric.proofs.Filling.{run-more}
-use Rattle.stoichiometry.specs.Substances.{substances}
+use Rattle.stoichiometry.specs.Substances.{substances, mostNet}
 use Rattle.stoichiometry.specs.Rows.{processes}
 use Rattle.text.specs.Blocks.{part}
 use Rattle.record.specs.Lines.{lines, lineBytes, cellBytes}
 use Rattle.record_reading.specs.Reading.{lineNumber, lowestOn, highestOn, valueAt}
+use Rattle.river.specs.Rivers.{mostCarry}
 use Rattle.record_reading.proofs.LineReading.{number-line}
 
 module _ (t : List ℕ) (c : ℕ) where
@@ -40,18 +41,18 @@ module _ (t : List ℕ) (c : ℕ) where
       let known = number-line l (c + 1) (k + 1) (lowestOn k) (highestOn k) e in
       (leZ-true (lowestOn k) (valueAt t c k .value) (known .1), leZ-true (valueAt t c k .value) (highestOn k) (known .2))
 
-  pub amount-small : (k : ℕ) → k < substances → valueAt t c k .ok ≡ true → natAbs (valueAt t c k .value) ≤ 1000000000000000000
+  pub amount-small : (k : ℕ) → k < substances → valueAt t c k .ok ≡ true → natAbs (valueAt t c k .value) ≤ mostNet
   unfolding lowestOn highestOn
   amount-small k h e =
       let known = rw (lt-ltb k substances h) at (value-within k e) in
-      abs-from (valueAt t c k .value) 1000000000000000000 (known .0) (known .1)
+      abs-from (valueAt t c k .value) mostNet (known .0) (known .1)
 
   pub carry-range : (k : ℕ) → substances ≤ k → valueAt t c k .ok ≡ true
-      → (pos 0 ≤ℤ valueAt t c k .value) × (natAbs (valueAt t c k .value) ≤ 999999)
+      → (pos 0 ≤ℤ valueAt t c k .value) × (natAbs (valueAt t c k .value) ≤ mostCarry)
   unfolding lowestOn highestOn
   carry-range k h e =
       let known = rw (le-ltb k substances h) at (value-within k e) in
-      (known .0, abs-of-nonneg (valueAt t c k .value) 999999 (known .0) (known .1))
+      (known .0, abs-of-nonneg (valueAt t c k .value) mostCarry (known .0) (known .1))
 
 -- A line more of a cell, whose first lines are stored as amounts and those past them as carries.
 module _ {A : Type 0} (l m : List A) (b k : ℕ) (f : ℕ → A) where

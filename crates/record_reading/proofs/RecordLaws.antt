@@ -18,11 +18,11 @@ use Rattle.numeric.proofs.Bounds.{abs-le, abs-ge}
 use Rattle.numeric.proofs.CheckLaws.{and-left, and-right, every-at, every-all}
 use Rattle.numeric.proofs.Comparison.{le-leZ}
 use Rattle.numeric.proofs.TableLaws.{getD-tab, tab-eq, tab-of-list}
-use Rattle.stoichiometry.specs.Substances.{substances}
+use Rattle.stoichiometry.specs.Substances.{substances, mostNet}
 use Rattle.stoichiometry.specs.Rows.{processes}
 use Rattle.river.specs.declared.Changed.{Changed}
 use Rattle.river.specs.declared.River.{River}
-use Rattle.river.specs.Rivers.{mostCells, cellsFit, riverWrong}
+use Rattle.river.specs.Rivers.{mostCells, cellsFit, riverWrong, mostCarry}
 use Rattle.river.proofs.Bounds.{fits-bound}
 use Rattle.river.proofs.Rivers.{river-cells, amount-fits-at, carry-fits-at, amount-zero-beyond, carry-zero-beyond}
 use Rattle.text_reading.specs.declared.Number.{Number}
@@ -40,21 +40,21 @@ use Rattle.record_reading.proofs.ReadAnswers.{answer-accepted, read-rec
 record Allowed (k : ℕ) (z : ℤ) : Type 0 where
   from : leZ (lowestOn k) z ≡ true
   to : leZ z (highestOn k) ≡ true
-  small : natAbs z ≤ 1000000000000000000
+  small : natAbs z ≤ mostNet
 
-amount-allowed : (k : ℕ) (z : ℤ) → k < substances → natAbs z ≤ 1000000000000000000 → Allowed k z
+amount-allowed : (k : ℕ) (z : ℤ) → k < substances → natAbs z ≤ mostNet → Allowed k z
 unfolding lowestOn highestOn
 amount-allowed k z h b = record {
-  from = rw (lt-ltb k substances h) (le-leZ _ z (abs-ge z 1000000000000000000 b));
-  to = rw (lt-ltb k substances h) (le-leZ z _ (abs-le z 1000000000000000000 b));
+  from = rw (lt-ltb k substances h) (le-leZ _ z (abs-ge z mostNet b));
+  to = rw (lt-ltb k substances h) (le-leZ z _ (abs-le z mostNet b));
   small = b;
 }
 
-carry-allowed : (k n : ℕ) → substances ≤ k → n ≤ 999999 → Allowed k (pos n)
+carry-allowed : (k n : ℕ) → substances ≤ k → n ≤ mostCarry → Allowed k (pos n)
 unfolding lowestOn highestOn
 carry-allowed k n h b = record {
   from = rw (le-ltb k substances h) (le-leb 0 n (omega arith));
-  to = rw (le-ltb k substances h) (le-leb n 999999 b);
+  to = rw (le-ltb k substances h) (le-leb n mostCarry b);
   small = omega arith;
 }
 

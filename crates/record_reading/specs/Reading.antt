@@ -9,11 +9,11 @@ use lib.ListN.{length}
 use lib.IntN.{ℤ, pos, negℤ, natAbs}
 use Rattle.numeric.specs.Check.{every, firstHolding, _when_}
 use Rattle.numeric.specs.Table.{tab}
-use Rattle.stoichiometry.specs.Substances.{substances}
+use Rattle.stoichiometry.specs.Substances.{substances, mostNet}
 use Rattle.stoichiometry.specs.Rows.{processes}
 use Rattle.river.specs.declared.Changed.{Changed}
 use Rattle.river.specs.declared.River.{River}
-use Rattle.river.specs.Rivers.{mostCells, cellsFit, riverWrong, zeroRiver}
+use Rattle.river.specs.Rivers.{mostCells, cellsFit, riverWrong, zeroRiver, mostCarry}
 use Rattle.text_reading.specs.declared.Number.{Number}
 use Rattle.text.specs.Blocks.{part}
 use Rattle.text_reading.specs.Reading.{parse, none}
@@ -34,10 +34,10 @@ lineNumber l cell k lowest highest =
 -- The limits of the value on line k, counted from 0: any amount, or a carry. The bounds of each amount are those of
 -- check 4.
 unfoldable pub lowestOn : ℕ → ℤ
-lowestOn k = cond (ltb k substances) (negℤ (pos 1000000000000000000)) (pos 0)
+lowestOn k = cond (ltb k substances) (negℤ (pos mostNet)) (pos 0)
 
 unfoldable pub highestOn : ℕ → ℤ
-highestOn k = cond (ltb k substances) (pos 1000000000000000000) (pos 999999)
+highestOn k = cond (ltb k substances) (pos mostNet) (pos mostCarry)
 
 -- The value on line k of cell c of a text, both from 0.
 unfoldable pub valueAt : List ℕ → ℕ → ℕ → Number

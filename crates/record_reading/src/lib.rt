@@ -4,12 +4,13 @@ ghost use Rattle.record_reading.specs.Reading.{readAnswer, cellNumber, c
 use crate::reading::no_record;
 use crate::reading::read_cells;
 use crate::reading::size_fits;
-use record::CELL_BYTES;
+use record::Record;
 use river::AMOUNTS;
 use river::CARRIES;
 use river::Changed;
 use river::River;
 use river::river_right;
+use stoichiometry::refusal;
 
 mod reading;
 
@@ -20,7 +21,7 @@ pub fn read_record(text: &[u8]) -> Changed
     if !size_fits(text.len()) {
         return no_record();
     }
-    let n = text.len() / CELL_BYTES;
+    let n = text.len() / Record::CELL_BYTES;
     let mut amounts = [0; AMOUNTS];
     let mut carries = [0; CARRIES];
     if read_cells(text, n, &mut amounts, &mut carries) {
@@ -33,7 +34,10 @@ pub fn read_record(text: &[u8]) -> Changed
             amounts,
             carries,
         };
-        return Changed { number: 0, river };
+        return Changed {
+            number: refusal::NONE,
+            river,
+        };
     }
     no_record()
 }
@@ -43,25 +47,25 @@ pub fn number_of_cell(text: &[u8], cell: u32) -> u32
     ensures answer { λ r. ⌜ r ≡ cellNumber (now (text .entry)) cell ⌝ }
 {
     let read = read_record(text);
-    if read.number != 0 {
-        return 11;
+    if read.number != refusal::NONE {
+        return refusal::TEXT;
     }
     if cell < 1 {
-        return 5;
+        return refusal::PLACE;
     }
-    if text.len() / CELL_BYTES < cell as usize {
-        return 5;
+    if text.len() / Record::CELL_BYTES < cell as usize {
+        return refusal::PLACE;
     }
-    0
+    refusal::NONE
 }
 
 // The lines of one cell, as that part of the lent text; empty where `number_of_cell` gives a number.
 pub fn lines_of_cell(text: &[u8], cell: u32) -> &[u8]
     ensures answer { λ r. ⌜ now r ≡ cellLines (now (text .entry)) cell ⌝ }
 {
-    if number_of_cell(text, cell) == 0 {
-        let start = (cell - 1) as usize * CELL_BYTES;
-        let end = start + CELL_BYTES;
+    if number_of_cell(text, cell) == refusal::NONE {
+        let start = (cell - 1) as usize * Record::CELL_BYTES;
+        let end = start + Record::CELL_BYTES;
         return &text[start..end];
     }
     &text[0..0]

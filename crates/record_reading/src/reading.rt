@@ -16,16 +16,14 @@ ghost use Rattle.text_reading.specs.Reading.{none};
 ghost use Rattle.record.specs.Lines.{front, lines, lineBytes, cellBytes};
 ghost use Rattle.record_reading.specs.Reading.{sameBytes, lineNumber, lowestOn, highestOn, valueAt, linesRight, amountsIn, carriesIn};
 use numeric::both;
-use record::CELL_BYTES;
-use record::LINE_BYTES;
-use record::LINES;
+use record::Record;
 use river::AMOUNTS;
 use river::CARRIES;
-use river::CELLS;
 use river::Changed;
 use river::River;
 use stoichiometry::PROCESSES;
 use stoichiometry::SUBSTANCES;
+use stoichiometry::refusal;
 use text_reading::Number;
 use text_reading::number_of;
 
@@ -78,12 +76,12 @@ fn line_number(text: &[u8], at: usize, cell: u32, number: u32, lowest: i64, high
     requires { ⌜ at + lineBytes ≤ length (now text) ⌝ }
     ensures { λ r. ⌜ r ≡ lineNumber (part at lineBytes (now (text .entry))) cell number lowest highest ⌝ }
 {
-    if text[at + 26] != b'\n' {
+    if text[at + Record::LINE_FEED] != b'\n' {
         return no_number();
     }
     if front_right(text, at, cell, number) {
-        let start = at + 6;
-        let end = at + 26;
+        let start = at + Record::VALUE_START;
+        let end = at + Record::LINE_FEED;
         return number_of(&text[start..end], lowest, highest);
     }
     no_number()
@@ -119,15 +117,15 @@ fn read_cell(
     ensures { λ r. ⌜ (r ≡ true → now (amounts .exit) ≡ run (now (amounts .entry)) (c * substances) substances (λ k. valueAt (now (text .entry)) c k .value)) ⌝ }
     ensures { λ r. ⌜ (r ≡ true → now (carries .exit) ≡ run (now (carries .entry)) (c * processes) processes (λ p. natAbs (valueAt (now (text .entry)) c (substances + p) .value))) ⌝ }
 {
-    let start = c * CELL_BYTES;
+    let start = c * Record::CELL_BYTES;
     let amount = c * SUBSTANCES;
     let carry = c * PROCESSES;
     let cell = (c + 1) as u32;
     let mut k = 0;
-    while k < LINES {
+    while k < Record::LINES {
         let number = line_number(
             text,
-            start + k * LINE_BYTES,
+            start + k * Record::LINE_BYTES,
             cell,
             (k + 1) as u32,
             lowest_on(k),
@@ -174,15 +172,18 @@ pub(crate) fn read_cells(
 pub(crate) fn size_fits(bytes: usize) -> bool
     ensures { λ r. ⌜ r ≡ (cellsFit (bytes / cellBytes) && eqb (bytes / cellBytes * cellBytes) bytes) ⌝ }
 {
-    let n = bytes / CELL_BYTES;
-    both(both(1 <= n, n <= CELLS), n * CELL_BYTES == bytes)
+    let n = bytes / Record::CELL_BYTES;
+    both(
+        both(1 <= n, n <= River::CELLS_MOST),
+        n * Record::CELL_BYTES == bytes,
+    )
 }
 
 pub(crate) fn no_record() -> Changed
     ensures { λ r. ⌜ r ≡ record { number = 11; river = zeroRiver 0 } ⌝ }
 {
     Changed {
-        number: 11,
+        number: refusal::TEXT,
         river: River {
             cells: 0,
             amounts: [0; AMOUNTS],

@@ -1,68 +1,92 @@
--- The results, each stated whole and cited: demand 3; the record reads back and nothing else is read; flow and air
--- never need 8; any row balances; the starred cases. The definitions to believe stand in specs/ of the crates named
--- in the `use` lines. No assumptions.
-use Prim.Native.Nat.{ℕ, _*_, _≤_}
-use mathlib.Core.Bool.{false}
+-- The results, each stated whole and cited: demand 3; the published set is accepted; a text is a record or it is
+-- refused; flow and air never need 8; any row balances; the starred cases. The definitions to believe stand in specs/
+-- of the crates named in the `use` lines. No assumptions.
+use Prim.Native.Nat.{ℕ, _≤_}
+use mathlib.Core.Bool.{true, false}
 use mathlib.Core.List.{List}
+use mathlib.Core.Logic.{_↔_, _⊎_}
 use mathlib.Core.Path.{_≡_, refl}
 use lib.Ieee.{round}
 use lib.IntN.{pos}
-use lib.ListN.{length}
 use Rattle.numeric.specs.Case.{AllHold}
 use Rattle.numeric.specs.Check.{every, allOf, firstHolding}
 use Rattle.numeric.specs.Sum.{sum}
+use Rattle.numeric.specs.Table.{tab}
+use Rattle.numeric.proofs.CaseLaws.{all-hold}
+use Rattle.stoichiometry.specs.declared.HalfSaturations.{HalfSaturations}
+use Rattle.stoichiometry.specs.declared.RateConstants.{RateConstants}
 use Rattle.stoichiometry.specs.declared.Set.{Set}
 use Rattle.stoichiometry.specs.Substances.{substances, Total, contents}
 use Rattle.stoichiometry.specs.Parameters.{addsUp, inRange, fractionsWrong, figuresWrong, yieldsFit, constantsFit}
-use Rattle.stoichiometry.specs.Rows.{processes, Process, entry, oxygenChange, row, processesOf, processAt, rowEntry}
-use Rattle.stoichiometry.specs.Sets.{Accepted, rowsWrong, setNumber}
+use Rattle.stoichiometry.specs.Parameters.{publishedSet}
+use Rattle.stoichiometry.specs.Levels.{levelOf}
+use Rattle.stoichiometry.specs.Rows.{Process, entry, oxygenChange, row, processesOf, processAt, rowEntry, rowsOf}
+use Rattle.stoichiometry.specs.Sets.{Accepted, rowsWrong, setNumber, zeroSet, publishedAnswer}
 use Rattle.stoichiometry.proofs.Balance as Balance
+use Rattle.stoichiometry.proofs.PublishedSet as Published
+use Rattle.rows.specs.Answers.{rowsAnswer}
+use Rattle.kinetics.specs.Conditions.{temperaturesFit, conditionsWrong}
 use Rattle.kinetics.specs.Factors.{monod, inhibition, times}
 use Rattle.kinetics.specs.Rates.{levelsOf, takesPhosphate, takesNitrogen, productsOf, quota, extent, extentAt}
 use Rattle.river.specs.declared.River.{River}
-use Rattle.river.specs.Rivers.{mostCells, riverWrong, zeroRiver, levelOf}
-use Rattle.transport.specs.Flow.{passing, flowNumber}
-use Rattle.transport.specs.Air.{exchanged, gain, airNumber}
+use Rattle.river.specs.Rivers.{mostCells, lowestAt, highestAt, amountFits, amountsFit, carriesFit, cellsFit, riverWrong}
+use Rattle.river.specs.Rivers.{cellExists, substanceExists, zeroRiver, freshAnswer}
+use Rattle.river.proofs.FreshLaws.{fresh-cells}
+use Rattle.transport.specs.Load.{loadNumber, loadAnswer}
+use Rattle.transport.specs.Flow.{passing, leftOf, movedOf, flowNumber, flowAnswer}
+use Rattle.transport.specs.Air.{exchanged, gain, airFigureWrong, airNumber, airAnswer}
 use Rattle.transport.proofs.FlowLaws.{flow-number-not-eight}
 use Rattle.transport.proofs.AirLaws.{air-number-eight}
-use Rattle.kinetics.specs.Conditions.{temperaturesFit, conditionsWrong}
-use Rattle.step.specs.Steps.{carried, batches, newCarry, newAmount}
+use Rattle.step.specs.Steps.{carried, batches, newCarry, newAmount, steppedAmounts, steppedCarries, batchesWrong}
+use Rattle.step.specs.Steps.{stepNumber, stepAnswer}
 use Rattle.balance.specs.Calls.{Call, book}
 use Rattle.balance.specs.Held.{after, answered, held}
 use Rattle.balance.proofs.Demand3.{calls-balance}
-use Rattle.probe.specs.Readings.{scaledFloor}
-use Rattle.record.specs.Lines.{recordOf}
-use Rattle.record_reading.specs.Reading.{isRecord, readAnswer}
-use Rattle.record_reading.proofs.ReadAnswers.{read-refused}
-use Rattle.record_reading.proofs.RecordLaws as Records
+use Rattle.probe.specs.Readings.{readingFits, scaledFloor}
+use Rattle.probe.specs.Frames.{frameFits, frameNumber, frameAnswer}
+use Rattle.record_reading.specs.Reading.{readAnswer}
+use Rattle.record_reading.specs.Records.{IsRecordOf}
+use Rattle.record_reading.proofs.RecordLaws.{read-unique}
+use Rattle.record_reading.proofs.RecordTexts.{read-is-record, read-else-refused}
 use Rattle.results.specs.Starred.{starred}
 
--- Demand 3: after every list of loads, flows, air exchanges and steps from a fresh river of 1 to 8 cells under an
--- accepted set, the river is in its bounds, and each total that cells i to j hold is what their book says.
+-- Demand 3: a fresh river of 1 to 8 cells is answered, and after every list of loads, flows, air exchanges and steps on
+-- it under an accepted set, the river is in its bounds, and each total that cells i to j hold is what their book says.
 pub demand-3 : (set : Set) → Accepted set → (n : ℕ) → 1 ≤ n → n ≤ mostCells → (calls : List Call)
-    → let r = after set calls (zeroRiver n) in
-    (riverWrong r ≡ false) × (r .cells ≡ n)
+    → let fresh = freshAnswer n in
+    let r = after set calls (fresh .river) in
+    (fresh .number ≡ 0) × (riverWrong r ≡ false) × (r .cells ≡ n)
     × ((i j : ℕ) → 1 ≤ i → i ≤ j → j ≤ n → (t : Total)
-    → held set t (r .amounts) i j ≡ book set t i j (answered set calls (zeroRiver n)))
+    → held set t (r .amounts) i j ≡ book set t i j (answered set calls (fresh .river)))
 demand-3 = calls-balance
 
--- The record of a river in bounds reads back to that river. (The arrays of a river have these lengths.)
-pub record-reads-back : (r : River) → riverWrong r ≡ false → length (r .amounts) ≡ mostCells * substances
-    → length (r .carries) ≡ mostCells * processes → readAnswer (recordOf r) ≡ record { number = 0; river = r }
-record-reads-back = Records.read-write
+-- No other number of cells is answered.
+pub fresh-1-to-8 : (n : ℕ) → freshAnswer n .number ≡ 0 → (1 ≤ n) × (n ≤ mostCells)
+fresh-1-to-8 = fresh-cells
 
--- A text that is read is, byte for byte, the record of the river read; so two texts that read to one river are one
--- text.
-pub record-exact : (t : List ℕ) → readAnswer t .number ≡ 0 → t ≡ recordOf (readAnswer t .river)
-record-exact = Records.read-accepted
+-- The published set is accepted for all constants in their ranges; the call refuses with 2 or answers an accepted set.
+pub published-accepted : (k : RateConstants) (h : HalfSaturations) → constantsFit k h ≡ true
+    → Accepted (publishedSet k h)
+published-accepted = Published.published-accepted
 
+pub published-answer : (k : RateConstants) (h : HalfSaturations)
+    → (publishedAnswer k h ≡ record { number = 2; set = zeroSet })
+    ⊎ ((publishedAnswer k h .number ≡ 0) × Accepted (publishedAnswer k h .set))
+published-answer = Published.published-answer
+
+-- A text is read as a river exactly when it is, byte for byte, the record of that river, which is in its bounds.
+pub record-read : (t : List ℕ) (r : River) → (readAnswer t ≡ record { number = 0; river = r }) ↔ IsRecordOf t r
+record-read = read-is-record
+
+-- So two texts that read to one river are one text.
 pub record-unique : (t u : List ℕ) → readAnswer t .number ≡ 0 → readAnswer u .number ≡ 0
     → readAnswer t .river ≡ readAnswer u .river → t ≡ u
-record-unique = Records.read-unique
+record-unique = read-unique
 
 -- Every other text is refused with 11.
-pub record-refused : (t : List ℕ) → isRecord t ≡ false → readAnswer t ≡ record { number = 11; river = zeroRiver 0 }
-record-refused = read-refused
+pub record-refused : (t : List ℕ) → ((r : River) → IsRecordOf t r → ⊥)
+    → readAnswer t ≡ record { number = 11; river = zeroRiver 0 }
+record-refused = read-else-refused
 
 -- Flow and air are never refused with 8.
 pub flow-never-8 : (r : River) (part : ℕ) → flowNumber r part ≡ 8 → ⊥
@@ -81,5 +105,11 @@ process-balance = Balance.process-balance
 
 -- Every case that document 01 stars comes out as stated.
 pub starred-hold : AllHold starred
-unfolding starred rowEntry entry row oxygenChange processAt processesOf setNumber firstHolding fractionsWrong addsUp allOf figuresWrong yieldsFit constantsFit inRange rowsWrong every monod inhibition times levelsOf takesPhosphate takesNitrogen productsOf quota extent extentAt sum levelOf passing exchanged gain carried batches newCarry newAmount temperaturesFit conditionsWrong scaledFloor round
-starred-hold = refl
+unfolding starred every allOf firstHolding sum tab fractionsWrong addsUp figuresWrong inRange yieldsFit constantsFit
+    publishedAnswer rowsWrong setNumber entry oxygenChange row processesOf processAt rowEntry rowsOf rowsAnswer
+    monod inhibition times levelsOf takesPhosphate takesNitrogen productsOf quota extent extentAt temperaturesFit
+    conditionsWrong freshAnswer cellsFit lowestAt highestAt amountFits amountsFit carriesFit riverWrong cellExists
+    substanceExists levelOf loadNumber loadAnswer passing leftOf movedOf flowNumber flowAnswer exchanged gain
+    airFigureWrong airNumber airAnswer carried batches newCarry newAmount steppedAmounts steppedCarries batchesWrong
+    stepNumber stepAnswer readingFits scaledFloor round frameFits frameNumber frameAnswer
+starred-hold = all-hold starred refl

@@ -1,28 +1,39 @@
--- The cases that document 01 stars ("Checked by hand"), as one table: each value as the definitions compute it,
--- beside the one that is stated. That all of it holds: proofs/Results.antt. No assumptions.
-use Prim.Native.Nat.{ℕ}
-use mathlib.Core.Bool.{false, cond}
+-- The cases that document 01 stars ("Checked by hand"), as one table: each value as the contracts of the calls promise
+-- it, beside the one that is stated. A Monod factor alone is no call's answer: there stands its definition. That all of
+-- it holds: proofs/Results.antt. No assumptions.
+use Prim.Native.Nat.{ℕ, _+_, _-_, _*_}
+use mathlib.Core.Bool.{false}
 use mathlib.Core.List.{List, [], _∷_}
-use lib.Dec.{eqb}
 use lib.Ieee.{Float, binary32, round}
 use lib.IntN.{ℤ, pos, negℤ}
+use lib.ListN.{getD}
 use Rattle.numeric.specs.Case.{Case, _gives_}
-use Rattle.numeric.specs.Check.{firstHolding, _when_}
 use Rattle.stoichiometry.specs.declared.Fractions.{Fractions}
 use Rattle.stoichiometry.specs.declared.GrowthRates.{GrowthRates}
 use Rattle.stoichiometry.specs.declared.RateConstants.{RateConstants}
 use Rattle.stoichiometry.specs.declared.Set.{Set}
 use Rattle.stoichiometry.specs.Substances.{organic, ss, xh, xs, nh4, no3, hpo4, o2, hco3, hPlus, h2o, n2, place}
-use Rattle.stoichiometry.specs.Parameters.{allHalfSaturations, fractions, publishedFractions, publishedYields, publishedInert, publishedSet}
-use Rattle.stoichiometry.specs.Rows.{rowEntry}
-use Rattle.stoichiometry.specs.Sets.{setNumber}
+use Rattle.stoichiometry.specs.Substances.{substances, Substance, grainsPerMicrogramN, grainsPerMicrogramP}
+use Rattle.stoichiometry.specs.Parameters.{allHalfSaturations, fractions}
+use Rattle.stoichiometry.specs.Parameters.{publishedFractions, publishedYields, publishedInert}
+use Rattle.stoichiometry.specs.Sets.{setNumber, publishedAnswer}
+use Rattle.rows.specs.declared.Rows.{Rows}
+use Rattle.rows.specs.Answers.{rowsAnswer}
 use Rattle.kinetics.specs.declared.Conditions.{Conditions}
 use Rattle.kinetics.specs.Factors.{monod}
-use Rattle.transport.specs.Flow.{passing}
-use Rattle.transport.specs.Air.{gain}
-use Rattle.kinetics.specs.Conditions.{conditionsWrong}
-use Rattle.step.specs.Steps.{newAmount, newCarry}
-use Rattle.probe.specs.Frames.{massMicrograms}
+use Rattle.river.specs.declared.Changed.{Changed}
+use Rattle.river.specs.declared.River.{River}
+use Rattle.river.specs.Rivers.{freshAnswer, amountAt, carryAt}
+use Rattle.transport.specs.declared.Aired.{Aired}
+use Rattle.transport.specs.declared.Flowed.{Flowed}
+use Rattle.transport.specs.Load.{loadAnswer}
+use Rattle.transport.specs.Flow.{flowAnswer}
+use Rattle.transport.specs.Air.{airAnswer}
+use Rattle.step.specs.Steps.{stepAnswer}
+use Rattle.probe.specs.declared.Amounts.{Amounts}
+use Rattle.probe.specs.declared.Frame.{Frame}
+use Rattle.probe.specs.declared.Oxygen.the-variants.{Missing}
+use Rattle.probe.specs.Frames.{frameAnswer}
 
 -- Hydrolysis at 3,000 thousandths per day, no other process.
 abbrev rates : RateConstants
@@ -40,7 +51,7 @@ rates =
     }
 
 abbrev published : Set
-published = publishedSet rates (allHalfSaturations 1000000)
+published = publishedAnswer rates (allHalfSaturations 1000000) .set
 
 -- The published set with other fractions of SS.
 abbrev withSs : Fractions → Set
@@ -68,51 +79,90 @@ abbrev given : ℕ → Conditions
 given seconds =
     record { seconds = seconds; light = 1000000; temperatures = record { xh = 1000000; xn1 = 1000000; xn2 = 1000000; algae = 1000000; hydrolysis = 1000000 } }
 
--- A cell with XS 1,000,000 alone and no carries; what a step of 3,600 s makes of it, and a second one.
-abbrev alone : ℕ → ℤ
-alone s = cond (eqb s (place (organic xs))) (pos 1000000) (pos 0)
+-- The rows of the published set, and the entry of a substance in the row of process p, counted from 1.
+abbrev rows : Rows
+rows = rowsAnswer published
 
-abbrev none : ℕ → ℕ
-none p = 0
+abbrev entryOf : ℕ → Substance → ℤ
+entryOf p s = getD (rows .entries) ((p - 1) * substances + place s) (pos 0)
 
-abbrev once : ℕ → ℤ
-once = newAmount published (given 3600) alone none
+-- A river of one cell, all zeros, and one with a number of a substance loaded; what it has of a substance.
+abbrev fresh : River
+fresh = freshAnswer 1 .river
 
-abbrev carriedOnce : ℕ → ℕ
-carriedOnce = newCarry published (given 3600) alone none
+abbrev loaded : River → Substance → ℤ → River
+loaded r s number = loadAnswer r 1 (place s + 1) number .river
 
--- The number of a step's conditions, 0 or 6.
-abbrev stepFigures : ℕ → ℤ
-stepFigures seconds = pos (firstHolding (6 when conditionsWrong (given seconds) ∷ []))
+abbrev amountIn : River → Substance → ℤ
+amountIn r s = amountAt (r .amounts) 0 (place s)
+
+-- XS 1,000,000 alone; what a step of so many seconds answers for it, and a second one of 3,600 s.
+abbrev once : ℕ → Changed
+once seconds = stepAnswer published (loaded fresh (organic xs) (pos 1000000)) (given seconds)
+
+abbrev again : Changed
+again = stepAnswer published (once 3600 .river) (given 3600)
+
+-- A flow of 5,000 with 10,001 of NH4 and −3 of H+, and what leaves of a substance.
+abbrev flowed : Flowed
+flowed = flowAnswer (loaded (loaded fresh nh4 (pos 10001)) hPlus (negℤ (pos 3))) 5000
+
+abbrev passes : Substance → ℤ
+passes s = amountAt (flowed .left) 0 (place s)
+
+-- Air on a river without O2.
+abbrev aired : Aired
+aired = airAnswer fresh 1 2000 3600 10000000
 
 -- The f32 nearest numerator / denominator.
 abbrev nearest : ℕ → ℕ → Float
 nearest numerator denominator = round binary32 false numerator denominator
 
+-- A frame of 0.7 and 0.5 g/m³, its oxygen missing.
+abbrev frame : Frame
+frame =
+    record {
+      ammonium = nearest 7 10;
+      nitrite = nearest 1 2;
+      nitrate = nearest 7 10;
+      phosphate = nearest 1 2;
+      oxygen = Missing;
+    }
+
+abbrev read : Amounts
+read = frameAnswer frame 10000000
+
 unfoldable pub starred : List Case
 starred =
-    rowEntry published 0 (place (organic xh)) gives pos 60
-    ∷ rowEntry published 0 (place (organic ss)) gives negℤ (pos 100)
-    ∷ rowEntry published 0 (place nh4) gives negℤ (pos 26784000)
-    ∷ rowEntry published 0 (place hpo4) gives negℤ (pos 8064000)
-    ∷ rowEntry published 0 (place o2) gives negℤ (pos 804879000)
-    ∷ rowEntry published 0 (place hco3) gives pos 671832000
-    ∷ rowEntry published 0 (place hPlus) gives pos 682488000
-    ∷ rowEntry published 0 (place h2o) gives negℤ (pos 119592000)
-    ∷ rowEntry published 5 (place no3) gives negℤ (pos 965589600)
-    ∷ rowEntry published 5 (place n2) gives pos 482794800
-    ∷ rowEntry published 5 (place hPlus) gives negℤ (pos 127197600)
+    pos (rows .number) gives pos 0
+    ∷ entryOf 1 (organic xh) gives pos 60
+    ∷ entryOf 1 (organic ss) gives negℤ (pos 100)
+    ∷ entryOf 1 nh4 gives negℤ (pos 26784000)
+    ∷ entryOf 1 hpo4 gives negℤ (pos 8064000)
+    ∷ entryOf 1 o2 gives negℤ (pos 804879000)
+    ∷ entryOf 1 hco3 gives pos 671832000
+    ∷ entryOf 1 hPlus gives pos 682488000
+    ∷ entryOf 1 h2o gives negℤ (pos 119592000)
+    ∷ entryOf 6 no3 gives negℤ (pos 965589600)
+    ∷ entryOf 6 n2 gives pos 482794800
+    ∷ entryOf 6 hPlus gives negℤ (pos 127197600)
     ∷ pos (monod 100 200) gives pos 333333
-    ∷ once (place (organic xs)) gives pos 875000
-    ∷ newAmount published (given 3600) once carriedOnce (place (organic xs)) gives pos 765700
-    ∷ pos (newCarry published (given 3600) once carriedOnce 14) gives pos 750000
-    ∷ passing 5000 (pos 10001) gives pos 5000
-    ∷ passing 5000 (negℤ (pos 3)) gives negℤ (pos 1)
-    ∷ gain 2000 3600 10000000 (pos 0) gives pos 8137496745000
-    ∷ pos (massMicrograms (nearest 7 10)) gives pos 699999
-    ∷ pos (massMicrograms (nearest 1 2)) gives pos 500000
+    ∷ pos (once 3600 .number) gives pos 0
+    ∷ amountIn (once 3600 .river) (organic xs) gives pos 875000
+    ∷ pos (again .number) gives pos 0
+    ∷ amountIn (again .river) (organic xs) gives pos 765700
+    ∷ pos (carryAt (again .river .carries) 0 14) gives pos 750000
+    ∷ pos (flowed .number) gives pos 0
+    ∷ passes nh4 gives pos 5000
+    ∷ passes hPlus gives negℤ (pos 1)
+    ∷ pos (aired .number) gives pos 0
+    ∷ aired .amount gives pos 8137496745000
+    ∷ pos (read .number) gives pos 0
+    ∷ read .ammonium gives pos (699999 * grainsPerMicrogramN)
+    ∷ read .nitrite gives pos (500000 * grainsPerMicrogramN)
+    ∷ read .nitrate gives pos (699999 * grainsPerMicrogramN)
+    ∷ read .phosphate gives pos (500000 * grainsPerMicrogramP)
     ∷ pos (setNumber (withSs (fractions 0 0 1000 0 0))) gives pos 3
     ∷ pos (setNumber (withSs (fractions 569 80 280 60 10))) gives pos 1
-    ∷ stepFigures 3600 gives pos 0
-    ∷ stepFigures 3601 gives pos 6
+    ∷ pos (once 3601 .number) gives pos 6
     ∷ []

@@ -19,22 +19,16 @@ use Rattle.numeric.proofs.Bounds.{abs-zero, abs-between, abs-of-nonneg}
 use Rattle.numeric.proofs.CheckLaws.{and-left, and-right, every-at}
 use Rattle.numeric.proofs.Comparison.{leZ-true, bits-eq}
 use Rattle.numeric.proofs.TableLaws.{getD-tab}
-use Rattle.stoichiometry.specs.Substances.{substances, order}
+use Rattle.stoichiometry.specs.Substances.{substances, order, mostOrganic, mostGrains, mostNet}
+use Rattle.river.specs.Runs.{organicAt, netAt}
 use Rattle.river.specs.Rivers.{lowest, highest, lowestAt, highestAt, amountFits}
-
--- The substance at a place is an organic; it is H+ or H2O.
-abbrev pub organicAt : ℕ → Bool
-organicAt s = ltb s 2 || (leb 9 s && leb s 14)
-
-abbrev pub netAt : ℕ → Bool
-netAt s = eqb s 8 || eqb s 16
 
 -- The bounds by kind.
 abbrev pub lowestOf : Bool → ℤ
-lowestOf net = cond net (negℤ (pos 1000000000000000000)) (pos 0)
+lowestOf net = cond net (negℤ (pos mostNet)) (pos 0)
 
 abbrev pub highestOf : Bool → Bool → ℤ
-highestOf organic net = cond organic (pos 1000000000) (cond net (pos 1000000000000000000) (pos 10000000000000000))
+highestOf organic net = cond organic (pos mostOrganic) (cond net (pos mostNet) (pos mostGrains))
 
 pub lowest-kind : (s : ℕ) → s < substances → lowestAt s ≡ lowestOf (netAt s)
 unfolding lowestAt tab
@@ -62,23 +56,23 @@ module _ (s : ℕ) (x : ℤ) where
   fits-highest e = leZ-true x (highestAt s) (and-right (leZ (lowestAt s) x) (leZ x (highestAt s)) e)
 
 -- What fits is from −10^18 to 10^18.
-pub fits-bound : (s : ℕ) (x : ℤ) → s < substances → amountFits s x ≡ true → natAbs x ≤ 1000000000000000000
+pub fits-bound : (s : ℕ) (x : ℤ) → s < substances → amountFits s x ≡ true → natAbs x ≤ mostNet
 fits-bound s x h e =
     abs-between (lowestAt s) x (highestAt s) (rw (lowest-kind s h) (low (netAt s)))
     (rw (highest-kind s h) (high (organicAt s) (netAt s))) (fits-lowest s x e) (fits-highest s x e)
   where
-    low : (net : Bool) → natAbs (lowestOf net) ≤ 1000000000000000000
+    low : (net : Bool) → natAbs (lowestOf net) ≤ mostNet
     low true = lit≤ tt
     low false = lit≤ tt
 
-    high : (organic net : Bool) → natAbs (highestOf organic net) ≤ 1000000000000000000
+    high : (organic net : Bool) → natAbs (highestOf organic net) ≤ mostNet
     high true net = lit≤ tt
     high false true = lit≤ tt
     high false false = lit≤ tt
 
 -- Of a substance but H+ and H2O: from 0 to 10^16.
 pub fits-level : (s : ℕ) (x : ℤ) → s < substances → netAt s ≡ false → amountFits s x ≡ true
-    → (pos 0 ≤ℤ x) × (natAbs x ≤ 10000000000000000)
+    → (pos 0 ≤ℤ x) × (natAbs x ≤ mostGrains)
 fits-level s x h n e =
     let low : lowestAt s ≡ pos 0 = lowest-kind s h ∙ ap lowestOf n in
     let high : highestAt s ≡ highestOf (organicAt s) false = highest-kind s h ∙ ap (highestOf (organicAt s)) n in
@@ -86,7 +80,7 @@ fits-level s x h n e =
     let most-is = most (organicAt s) in
     (from-zero, abs-between (pos 0) x (highestAt s) (lit≤ tt) (rw high most-is) from-zero (fits-highest s x e))
   where
-    most : (organic : Bool) → natAbs (highestOf organic false) ≤ 10000000000000000
+    most : (organic : Bool) → natAbs (highestOf organic false) ≤ mostGrains
     most true = lit≤ tt
     most false = lit≤ tt
 
@@ -98,11 +92,11 @@ organic-not-net s h o =
 
 -- Of an organic: from 0 to 10^9.
 pub fits-organic : (s : ℕ) (x : ℤ) → s < substances → organicAt s ≡ true → amountFits s x ≡ true
-    → (pos 0 ≤ℤ x) × (natAbs x ≤ 1000000000)
+    → (pos 0 ≤ℤ x) × (natAbs x ≤ mostOrganic)
 fits-organic s x h o e =
-    let high : highestAt s ≡ pos 1000000000 = highest-kind s h ∙ ap (λ (b : Bool). highestOf b (netAt s)) o in
+    let high : highestAt s ≡ pos mostOrganic = highest-kind s h ∙ ap (λ (b : Bool). highestOf b (netAt s)) o in
     let from-zero = fits-level s x h (organic-not-net s h o) e .0 in
-    (from-zero, abs-of-nonneg x 1000000000 from-zero (rw high at (fits-highest s x e)))
+    (from-zero, abs-of-nonneg x mostOrganic from-zero (rw high at (fits-highest s x e)))
 
 -- The machine tests the bits for 0.
 pub zero-bits : (z : ℤ) → SFits w64 z → ofZ w64 z ≡ 0 → eqb (natAbs z) 0 ≡ true

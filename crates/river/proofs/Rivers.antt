@@ -14,11 +14,13 @@ use lib.Signed.{_≤ℤ_}
 use Rattle.numeric.specs.Check.{every}
 use Rattle.numeric.proofs.Bounds.{abs-zero}
 use Rattle.numeric.proofs.CheckLaws.{and-left, and-right, leb-within, every-at, every-all, every-eq, every-rows, row-in, every-split}
-use Rattle.stoichiometry.specs.Substances.{substances}
+use Rattle.stoichiometry.specs.Substances.{substances, mostNet, mostGrains}
 use Rattle.stoichiometry.specs.Rows.{processes}
 use Rattle.river.specs.declared.River.{River}
+use Rattle.river.specs.Rivers.{mostCarry}
 use Rattle.river.specs.Rivers.{mostCells, lowestAt, highestAt, amountFits, amountAt, carryAt, amountsFit, carriesFit, cellsFit, riverRight, riverWrong, zeroRiver, cellExists, substanceExists}
-use Rattle.river.proofs.Bounds.{netAt, fits-bound, fits-level}
+use Rattle.river.specs.Runs.{netAt}
+use Rattle.river.proofs.Bounds.{fits-bound, fits-level}
 
 -- The test of an amount and of a carry in a cell, and beyond the last cell.
 abbrev pub fitsAt : List ℤ → ℕ → ℕ → Bool
@@ -28,7 +30,7 @@ abbrev pub emptyAt : List ℤ → ℕ → Bool
 emptyAt amounts k = eqb (natAbs (getD amounts k (pos 0))) 0
 
 abbrev pub lightAt : List ℕ → ℕ → Bool
-lightAt carries k = leb (getD carries k 0) 999999
+lightAt carries k = leb (getD carries k 0) mostCarry
 
 abbrev pub noneAt : List ℕ → ℕ → Bool
 noneAt carries k = eqb (getD carries k 0) 0
@@ -109,7 +111,7 @@ module _ (n : ℕ) (amounts : List ℤ) (most : n ≤ mostCells) where
       abs-zero (getD amounts k (pos 0)) (eqb-true (natAbs (getD amounts k (pos 0))) 0 (rw place at at-place))
 
   amount-either : amountsFit n amounts ≡ true → (k : ℕ) → k < mostCells * substances → Dec (k < n * substances)
-      → natAbs (getD amounts k (pos 0)) ≤ 1000000000000000000
+      → natAbs (getD amounts k (pos 0)) ≤ mostNet
   amount-either fits k h (yes l) =
       let c = k / substances in
       let s = k % substances in
@@ -118,7 +120,7 @@ module _ (n : ℕ) (amounts : List ℤ) (most : n ≤ mostCells) where
   amount-either fits k h (no g) = rw (amounts-zero fits k (omega arith) h) (lit≤ tt)
 
   pub amounts-bound : amountsFit n amounts ≡ true → (k : ℕ) → k < mostCells * substances
-      → natAbs (getD amounts k (pos 0)) ≤ 1000000000000000000
+      → natAbs (getD amounts k (pos 0)) ≤ mostNet
   amounts-bound fits k h = amount-either fits k h (decLt k (n * substances))
 
   -- The converse.
@@ -135,11 +137,11 @@ module _ (n : ℕ) (amounts : List ℤ) (most : n ≤ mostCells) where
 
 -- Carries of which the first n cells fit.
 module _ (n : ℕ) (carries : List ℕ) (most : n ≤ mostCells) where
-  pub carries-at : carriesFit n carries ≡ true → (k : ℕ) → k < n * processes → getD carries k 0 ≤ 999999
+  pub carries-at : carriesFit n carries ≡ true → (k : ℕ) → k < n * processes → getD carries k 0 ≤ mostCarry
   carries-at fits k l =
       let both = sym (carries-parts n carries most) ∙ fits in
       let light = and-left (lightTest (n * processes) carries) (noneTest (n * processes) carries) both in
-      leb-true (getD carries k 0) 999999 (every-at (n * processes) k (lightAt carries) light l)
+      leb-true (getD carries k 0) mostCarry (every-at (n * processes) k (lightAt carries) light l)
 
   pub carries-zero : carriesFit n carries ≡ true → (k : ℕ) → n * processes ≤ k → k < mostCells * processes → getD carries k 0 ≡ 0
   carries-zero fits k h l =
@@ -150,21 +152,21 @@ module _ (n : ℕ) (carries : List ℕ) (most : n ≤ mostCells) where
       let at-place = every-at (mostCells * processes - n * processes) (k - n * processes) test none (omega arith) in
       eqb-true (getD carries k 0) 0 (rw place at at-place)
 
-  carry-either : carriesFit n carries ≡ true → (k : ℕ) → k < mostCells * processes → Dec (k < n * processes) → getD carries k 0 ≤ 999999
+  carry-either : carriesFit n carries ≡ true → (k : ℕ) → k < mostCells * processes → Dec (k < n * processes) → getD carries k 0 ≤ mostCarry
   carry-either fits k h (yes l) = carries-at fits k l
   carry-either fits k h (no g) = omega (arith, carries-zero fits k (omega arith) h)
 
-  pub carries-bound : carriesFit n carries ≡ true → (k : ℕ) → k < mostCells * processes → getD carries k 0 ≤ 999999
+  pub carries-bound : carriesFit n carries ≡ true → (k : ℕ) → k < mostCells * processes → getD carries k 0 ≤ mostCarry
   carries-bound fits k h = carry-either fits k h (decLt k (n * processes))
 
   -- The converse.
-  pub carries-from : ((k : ℕ) → k < n * processes → getD carries k 0 ≤ 999999)
+  pub carries-from : ((k : ℕ) → k < n * processes → getD carries k 0 ≤ mostCarry)
       → ((k : ℕ) → n * processes ≤ k → k < mostCells * processes → getD carries k 0 ≡ 0)
       → carriesFit n carries ≡ true
   carries-from inside beyond =
       carries-parts n carries most
       ∙ ap₂ _&&_
-      (every-all (n * processes) (lightAt carries) (λ k l. le-leb (getD carries k 0) 999999 (inside k l)))
+      (every-all (n * processes) (lightAt carries) (λ k l. le-leb (getD carries k 0) mostCarry (inside k l)))
       (every-all (mostCells * processes - n * processes) (λ i. noneAt carries (n * processes + i))
       (λ i l. eq-eqb _ 0 (beyond (n * processes + i) (omega arith) (omega arith))))
 
@@ -211,15 +213,15 @@ module _ (r : River) (right : riverWrong r ≡ false) where
   amount-zero-beyond = amounts-zero (r .cells) (r .amounts) (river-cells .1) river-amounts
 
   -- Every amount, also beyond the last cell.
-  pub amount-bound : (k : ℕ) → k < mostCells * substances → natAbs (getD (r .amounts) k (pos 0)) ≤ 1000000000000000000
+  pub amount-bound : (k : ℕ) → k < mostCells * substances → natAbs (getD (r .amounts) k (pos 0)) ≤ mostNet
   amount-bound = amounts-bound (r .cells) (r .amounts) (river-cells .1) river-amounts
 
   -- An amount of a substance but H+ and H2O.
   pub level-amount : (c s : ℕ) → c < r .cells → s < substances → netAt s ≡ false
-      → (pos 0 ≤ℤ amountAt (r .amounts) c s) × (natAbs (amountAt (r .amounts) c s) ≤ 10000000000000000)
+      → (pos 0 ≤ℤ amountAt (r .amounts) c s) × (natAbs (amountAt (r .amounts) c s) ≤ mostGrains)
   level-amount c s h l n = fits-level s (amountAt (r .amounts) c s) l n (amount-fits-at c s h l)
 
-  pub carry-fits-at : (c p : ℕ) → c < r .cells → p < processes → carryAt (r .carries) c p ≤ 999999
+  pub carry-fits-at : (c p : ℕ) → c < r .cells → p < processes → carryAt (r .carries) c p ≤ mostCarry
   carry-fits-at c p h l =
       carries-at (r .cells) (r .carries) (river-cells .1) river-carries (c * processes + p) (omega arith)
 
@@ -227,7 +229,7 @@ module _ (r : River) (right : riverWrong r ≡ false) where
   carry-zero-beyond = carries-zero (r .cells) (r .carries) (river-cells .1) river-carries
 
   -- Every carry, also beyond the last cell.
-  pub carry-bound : (k : ℕ) → k < mostCells * processes → getD (r .carries) k 0 ≤ 999999
+  pub carry-bound : (k : ℕ) → k < mostCells * processes → getD (r .carries) k 0 ≤ mostCarry
   carry-bound = carries-bound (r .cells) (r .carries) (river-cells .1) river-carries
 
 pub zero-fits : (s : ℕ) → s < substances → amountFits s (pos 0) ≡ true

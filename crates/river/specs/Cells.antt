@@ -14,7 +14,8 @@ use Rattle.stoichiometry.specs.Sets.{rowsWrong}
 use Rattle.river.specs.declared.River.{River}
 use Rattle.river.specs.declared.Totals.{Totals}
 use Rattle.river.specs.declared.Letter.{Letter}
-use Rattle.river.specs.Rivers.{amountAt, levelOf, riverWrong, cellExists}
+use Rattle.stoichiometry.specs.Levels.{levelOf}
+use Rattle.river.specs.Rivers.{amountAt, riverWrong, cellExists}
 
 -- A total of a cell, counted from 0: the contents of all its amounts, added.
 unfoldable pub cellTotal : Set → Total → List ℤ → ℕ → ℤ
@@ -40,12 +41,15 @@ totalsAnswer set r cell =
       charge = total charge;
     }
 
--- The letter of a cell, as ASCII: L (76) if the O2 level is below 2,000,000 µg; N (78) if the NH4 level is above
--- 1,000,000 µg; else a hyphen (45).
+-- The letter by the levels of O2 and NH4, as ASCII: L (76) if that of O2 is below 2,000,000 µg; N (78) if that of NH4
+-- is above 1,000,000 µg; else a hyphen (45).
+unfoldable pub letterBy : ℕ → ℕ → ℕ
+letterBy oxygenLevel ammoniumLevel = cond (ltb oxygenLevel 2000000) 76 (cond (ltb 1000000 ammoniumLevel) 78 45)
+
+-- The letter of a cell, counted from 0.
 unfoldable pub letterOf : List ℤ → ℕ → ℕ
 letterOf amounts c =
-    cond (ltb (levelOf o2 (amountAt amounts c (place o2))) 2000000) 76
-    (cond (ltb 1000000 (levelOf nh4 (amountAt amounts c (place nh4)))) 78 45)
+    letterBy (levelOf o2 (amountAt amounts c (place o2))) (levelOf nh4 (amountAt amounts c (place nh4)))
 
 unfoldable pub letterNumber : River → ℕ → ℕ
 letterNumber r cell = firstHolding (4 when riverWrong r ∷ 5 when not (cellExists r cell) ∷ [])

@@ -1,5 +1,5 @@
 -- The river (scope, "Units and substances" and "Numbers a caller may get"): the bounds of its amounts and carries,
--- check 4, a fresh river, and the level of a substance. Laws: proofs/. No assumptions.
+-- check 4, and a fresh river. Laws: proofs/. No assumptions.
 use Prim.Native.Nat.{ℕ, _+_, _*_, _/_, _%_}
 use mathlib.Core.Bool.{Bool, not, _&&_, cond}
 use mathlib.Core.List.{List, [], _∷_, map}
@@ -8,7 +8,7 @@ use lib.ListN.{getD, replicate}
 use lib.IntN.{ℤ, pos, negℤ, natAbs}
 use lib.Signed.{leZ}
 use Rattle.numeric.specs.Check.{every, firstHolding, _when_}
-use Rattle.stoichiometry.specs.Substances.{substances, Substance, organic, nh4, no2, no3, hpo4, o2, hco3, hPlus, xp, h2o, n2, order, grainsPerMicrogramO, grainsPerMicrogramN, grainsPerMicrogramP}
+use Rattle.stoichiometry.specs.Substances.{substances, Substance, organic, nh4, no2, no3, hpo4, o2, hco3, hPlus, xp, h2o, n2, order, mostOrganic, mostGrains, mostNet}
 use Rattle.stoichiometry.specs.Rows.{processes}
 use Rattle.river.specs.declared.River.{River}
 use Rattle.river.specs.declared.Changed.{Changed}
@@ -16,6 +16,10 @@ use Rattle.river.specs.declared.Changed.{Changed}
 -- The most cells of a river.
 abbrev pub mostCells : ℕ
 mostCells = 8
+
+-- The most of a carry, millionths of a batch.
+abbrev pub mostCarry : ℕ
+mostCarry = 999999
 
 -- The least and the most of a substance: organics in µg, the others in grains; H+ and H2O are net changes.
 abbrev pub lowest : Substance → ℤ
@@ -26,23 +30,23 @@ lowest no3 = pos 0
 lowest hpo4 = pos 0
 lowest o2 = pos 0
 lowest hco3 = pos 0
-lowest hPlus = negℤ (pos 1000000000000000000)
+lowest hPlus = negℤ (pos mostNet)
 lowest xp = pos 0
-lowest h2o = negℤ (pos 1000000000000000000)
+lowest h2o = negℤ (pos mostNet)
 lowest n2 = pos 0
 
 abbrev pub highest : Substance → ℤ
-highest (organic x) = pos 1000000000
-highest nh4 = pos 10000000000000000
-highest no2 = pos 10000000000000000
-highest no3 = pos 10000000000000000
-highest hpo4 = pos 10000000000000000
-highest o2 = pos 10000000000000000
-highest hco3 = pos 10000000000000000
-highest hPlus = pos 1000000000000000000
-highest xp = pos 10000000000000000
-highest h2o = pos 1000000000000000000
-highest n2 = pos 10000000000000000
+highest (organic x) = pos mostOrganic
+highest nh4 = pos mostGrains
+highest no2 = pos mostGrains
+highest no3 = pos mostGrains
+highest hpo4 = pos mostGrains
+highest o2 = pos mostGrains
+highest hco3 = pos mostGrains
+highest hPlus = pos mostNet
+highest xp = pos mostGrains
+highest h2o = pos mostNet
+highest n2 = pos mostGrains
 
 -- The same by the substance's place.
 unfoldable pub lowestAt : ℕ → ℤ
@@ -68,10 +72,10 @@ amountsFit n amounts =
     every (mostCells * substances) (λ k.
     cond (ltb (k / substances) n) (amountFits (k % substances) (getD amounts k (pos 0))) (eqb (natAbs (getD amounts k (pos 0))) 0))
 
--- All carries of the first n cells are at most 999,999, all others are 0.
+-- All carries of the first n cells are at most 999,999 millionths, all others are 0.
 unfoldable pub carriesFit : ℕ → List ℕ → Bool
 carriesFit n carries =
-    every (mostCells * processes) (λ k. cond (ltb (k / processes) n) (leb (getD carries k 0) 999999) (eqb (getD carries k 0) 0))
+    every (mostCells * processes) (λ k. cond (ltb (k / processes) n) (leb (getD carries k 0) mostCarry) (eqb (getD carries k 0) 0))
 
 -- A river is of 1 to 8 cells.
 unfoldable pub cellsFit : ℕ → Bool
@@ -103,23 +107,3 @@ unfoldable pub freshAnswer : ℕ → Changed
 freshAnswer n =
     let number = firstHolding (4 when not (cellsFit n) ∷ []) in
     record { number = number; river = zeroRiver (cond (eqb number 0) n 0) }
-
--- Grains in one µg of a substance's element, the customer's W: N of NH4, NO2 and NO3, P of HPO4 and XP, O of O2; 1 for
--- organics, which are in µg, and for substances that have no level.
-abbrev pub weightOf : Substance → ℕ
-weightOf (organic x) = 1
-weightOf nh4 = grainsPerMicrogramN
-weightOf no2 = grainsPerMicrogramN
-weightOf no3 = grainsPerMicrogramN
-weightOf hpo4 = grainsPerMicrogramP
-weightOf o2 = grainsPerMicrogramO
-weightOf hco3 = 1
-weightOf hPlus = 1
-weightOf xp = grainsPerMicrogramP
-weightOf h2o = 1
-weightOf n2 = 1
-
--- The customer's "level", µg: an amount divided by W, rounded down; of an organic, its amount. Amounts that have a
--- level are not negative.
-unfoldable pub levelOf : Substance → ℤ → ℕ
-levelOf s amount = natAbs amount / weightOf s

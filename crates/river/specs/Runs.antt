@@ -1,13 +1,22 @@
--- What the inner functions of check 4 say of a run of neighbouring substances of a cell (scope, "Units and substances":
+-- What the inner functions of check 4 say of a substance by its place, and of a run of neighbouring ones (scope, "Units and substances":
 -- the bounds). Laws: proofs/Runs.antt. No assumptions.
 use Prim.Native.Nat.{ℕ, _+_, _≤_, _<_}
-use mathlib.Core.Bool.{true}
+use mathlib.Core.Bool.{Bool, true, _&&_, _||_}
 use mathlib.Core.List.{List}
 use mathlib.Core.Path.{_≡_}
+use lib.Dec.{leb, ltb, eqb}
 use lib.ListN.{getD}
 use lib.IntN.{ℤ, pos}
 use lib.Signed.{_≤ℤ_}
+use Rattle.stoichiometry.specs.Substances.{organic, xh, xi, nh4, hPlus, h2o, place}
 use Rattle.river.specs.Rivers.{lowestAt, highestAt, amountFits}
+
+-- The substance at a place is an organic: these stand before NH4 and from XH to XI. It is H+ or H2O.
+abbrev pub organicAt : ℕ → Bool
+organicAt s = ltb s (place nh4) || (leb (place (organic xh)) s && leb s (place (organic xi)))
+
+abbrev pub netAt : ℕ → Bool
+netAt s = eqb s (place hPlus) || eqb s (place h2o)
 
 -- The amounts of the substances at places first to end - 1, of the cell that begins at `start`, are in their bounds.
 abbrev pub RunFits : List ℤ → ℕ → ℕ → ℕ → Type 0

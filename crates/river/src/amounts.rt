@@ -1,36 +1,32 @@
 // The amounts' part of check 4: those of the river's cells are in their bounds, all others are 0.
 ghost use mathlib.Core.Path.{_≡_};
-ghost use mathlib.Core.Bool.{true, false, _&&_, _||_};
+ghost use mathlib.Core.Bool.{true, false};
 ghost use Prim.Native.Nat.{_+_, _*_, _-_, _<_, _≤_};
-ghost use lib.Dec.{leb, ltb, eqb};
+ghost use lib.Dec.{eqb};
 ghost use lib.ListN.{getD};
 ghost use lib.IntN.{pos, natAbs};
 ghost use Rattle.numeric.specs.Check.{every};
 ghost use Rattle.stoichiometry.specs.Substances.{substances};
 ghost use Rattle.river.specs.Rivers.{mostCells, lowestAt, highestAt, amountFits, amountAt, amountsFit};
-ghost use Rattle.river.specs.Runs.{RunFits, SameBounds, Covers};
+ghost use Rattle.river.specs.Runs.{organicAt, netAt, RunFits, SameBounds, Covers};
 use crate::AMOUNTS;
 use crate::River;
-use crate::cells::H_PLUS;
-use crate::cells::H2O;
-use crate::cells::NH4;
-use crate::cells::XH;
-use crate::cells::XI;
-use crate::cells::XP;
 use numeric::both;
 use stoichiometry::SUBSTANCES;
+use stoichiometry::place;
 
-// The substance at place s is an organic; it is H+ or H2O.
+// The substance at place s is an organic: these stand before NH4 and from XH to XI.
 fn is_organic(s: usize) -> bool
-    ensures { λ r. ⌜ r ≡ (ltb s 2 || (leb 9 s && leb s 14)) ⌝ }
+    ensures { λ r. ⌜ r ≡ organicAt s ⌝ }
 {
-    s < NH4 || (XH <= s && s <= XI)
+    s < place::NH4 || (place::XH <= s && s <= place::XI)
 }
 
+// It is H+ or H2O.
 fn is_net_change(s: usize) -> bool
-    ensures { λ r. ⌜ r ≡ (eqb s 8 || eqb s 16) ⌝ }
+    ensures { λ r. ⌜ r ≡ netAt s ⌝ }
 {
-    s == H_PLUS || s == H2O
+    s == place::H_PLUS || s == place::H2O
 }
 
 // The least of the substance at place s, and its most.
@@ -114,19 +110,19 @@ fn runs_fit(amounts: &[i64; AMOUNTS], start: usize) -> bool
     requires { ⌜ start + substances ≤ mostCells * substances ⌝ }
     ensures { λ r. ⌜ (r ≡ true → RunFits (now (amounts .entry)) start 0 substances) ⌝ }
 {
-    if !run_fits(amounts, start, 0, NH4) {
+    if !run_fits(amounts, start, place::SS, place::NH4) {
         return false;
     }
-    if !run_fits(amounts, start, NH4, H_PLUS) {
+    if !run_fits(amounts, start, place::NH4, place::H_PLUS) {
         return false;
     }
-    if !each_fits(amounts, start, H_PLUS, XH) {
+    if !each_fits(amounts, start, place::H_PLUS, place::XH) {
         return false;
     }
-    if !run_fits(amounts, start, XH, XP) {
+    if !run_fits(amounts, start, place::XH, place::XP) {
         return false;
     }
-    each_fits(amounts, start, XP, SUBSTANCES)
+    each_fits(amounts, start, place::XP, SUBSTANCES)
 }
 
 // The amounts of the cell that begins at `start` are in their bounds. Nearly every cell passes the few tests; where one

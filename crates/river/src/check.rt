@@ -5,9 +5,8 @@ ghost use lib.Dec.{leb, eqb};
 ghost use lib.ListN.{getD};
 ghost use Rattle.numeric.specs.Check.{every};
 ghost use Rattle.stoichiometry.specs.Rows.{processes};
-ghost use Rattle.river.specs.Rivers.{mostCells, carriesFit, cellsFit};
+ghost use Rattle.river.specs.Rivers.{mostCells, mostCarry, carriesFit, cellsFit};
 use crate::CARRIES;
-use crate::CELLS;
 use crate::River;
 use numeric::both;
 use stoichiometry::PROCESSES;
@@ -15,7 +14,7 @@ use stoichiometry::PROCESSES;
 // The carries before `end` are below one batch.
 fn carries_below_batch(end: usize, carries: &[u32; CARRIES]) -> bool
     requires { ⌜ end ≤ mostCells * processes ⌝ }
-    ensures { λ r. ⌜ r ≡ every end (λ k. leb (getD (now (carries .entry)) k 0) 999999) ⌝ }
+    ensures { λ r. ⌜ r ≡ every end (λ k. leb (getD (now (carries .entry)) k 0) mostCarry) ⌝ }
 {
     // All are looked at, since nearly every river passes: without a way out of the loop four are tested at a time.
     let mut right = true;
@@ -61,5 +60,5 @@ pub(crate) fn carries_fit(n: usize, carries: &[u32; CARRIES]) -> bool
 pub(crate) fn cells_fit(n: u32) -> bool
     ensures { λ r. ⌜ r ≡ cellsFit n ⌝ }
 {
-    1 <= n && n <= CELLS as u32
+    1 <= n && n <= River::CELLS_MOST as u32
 }

@@ -4,28 +4,26 @@ ghost use Rattle.river.specs.Rivers.{amountFits, amountsFit, riverRight,
 ghost use Rattle.river.specs.Cells.{letterAnswer};
 use crate::amounts::amount_fits;
 use crate::amounts::amounts_fit;
-use crate::cells::NH4;
-use crate::cells::O2;
 use crate::cells::letter;
 use crate::check::carries_fit;
 use crate::check::cells_fit;
 use numeric::both;
 use stoichiometry::PROCESSES;
 use stoichiometry::SUBSTANCES;
+use stoichiometry::place;
+use stoichiometry::refusal;
 
 mod amounts;
 mod cells;
 mod check;
 
-pub const CELLS: usize = 8;
-
 // The amounts and the carries of all cells.
-pub const AMOUNTS: usize = CELLS * SUBSTANCES;
+pub const AMOUNTS: usize = River::CELLS_MOST * SUBSTANCES;
 
-pub const CARRIES: usize = CELLS * PROCESSES;
+pub const CARRIES: usize = River::CELLS_MOST * PROCESSES;
 
-// A train of cells. Amount s of cell c, both counted from 0, stands at c * 18 + s: organics in µg, the others in
-// grains, per cubic metre. Carry p of cell c stands at c * 17 + p: millionths of a batch.
+// A train of cells. Amount s of cell c, both counted from 0, stands at c * SUBSTANCES + s: organics in µg, the others
+// in grains, per cubic metre. Carry p of cell c stands at c * PROCESSES + p: millionths of a batch.
 pub struct River {
     pub cells: u32,
     pub amounts: [i64; AMOUNTS],
@@ -33,6 +31,8 @@ pub struct River {
 }
 
 impl River {
+    pub const CELLS_MOST: usize = 8;
+
     // The bounds of amounts: organics from 0 in µg, other substances from 0 in grains, the net changes H+ and H2O
     // either way in grains. Carries are below one batch, in millionths.
     pub const ORGANIC_MOST: i64 = 1000000000;
@@ -43,14 +43,8 @@ impl River {
 
     pub const CARRY_MOST: u32 = 999999;
 
-    // The most of a part, ten-thousandths; of seconds; of an air constant, thousandths per day; of a saturation, µg.
-    pub const PART_MOST: u32 = 10000;
-
-    pub const SECONDS_MOST: u32 = 3600;
-
-    pub const AIR_CONSTANT_MOST: u32 = 20000;
-
-    pub const SATURATION_MOST: u32 = 20000000;
+    // The most whole batches that a process reaches in a cell in one step.
+    pub const BATCHES_MOST: i64 = 100000;
 
     // A river of n cells, all zeros. Refuses with 4 and a river of no cells where n is not 1 to 8.
     pub fn fresh(n: u32) -> Changed
@@ -58,12 +52,12 @@ impl River {
     {
         if cells_fit(n) {
             Changed {
-                number: 0,
+                number: refusal::NONE,
                 river: zero_river(n),
             }
         } else {
             Changed {
-                number: 4,
+                number: refusal::RIVER,
                 river: zero_river(0),
             }
         }
@@ -80,7 +74,8 @@ fn zero_river(n: u32) -> River
     }
 }
 
-// The river of a call's answer, or the number of its refusal and the river handed in.
+// The river of a call's answer, or the number of its refusal and the river handed in; where none was handed in, by
+// `River::fresh` and the reading of a record, a river of no cells.
 pub struct Changed {
     pub number: u32,
     pub river: River,
@@ -101,6 +96,20 @@ pub struct Totals {
 pub struct Letter {
     pub number: u32,
     pub letter: u8,
+}
+
+impl Letter {
+    // ASCII: low oxygen, high ammonium, neither.
+    pub const LOW_OXYGEN: u8 = b'L';
+
+    pub const HIGH_AMMONIUM: u8 = b'N';
+
+    pub const NEITHER: u8 = b'-';
+
+    // Below the first level O2 is low, above the second NH4 is high, µg.
+    pub const OXYGEN_LEAST: u64 = 2000000;
+
+    pub const AMMONIUM_MOST: u64 = 1000000;
 }
 
 // Check 4 passes a river of these parts: it is of 1 to 8 cells, its amounts and carries are in their bounds, and beyond its
@@ -135,10 +144,10 @@ pub fn amounts_in_bounds(cells: u32, amounts: &[i64; AMOUNTS]) -> bool
     ensures answer { λ r. ⌜ r ≡ amountsFit cells (now (amounts .entry)) ⌝ }
 {
     let n = cells as usize;
-    if n <= CELLS {
+    if n <= River::CELLS_MOST {
         amounts_fit(n, amounts)
     } else {
-        amounts_fit(CELLS, amounts)
+        amounts_fit(River::CELLS_MOST, amounts)
     }
 }
 
@@ -149,21 +158,21 @@ pub fn letter_of(river: River, cell: u32) -> Letter
 {
     if !river_right(river.cells, &river.amounts, &river.carries) {
         return Letter {
-            number: 4,
+            number: refusal::RIVER,
             letter: 0,
         };
     }
     if both(1 <= cell, cell <= river.cells) {
         let start = (cell - 1) as usize * SUBSTANCES;
-        let oxygen = river.amounts[start + O2];
-        let ammonium = river.amounts[start + NH4];
+        let oxygen = river.amounts[start + place::O2];
+        let ammonium = river.amounts[start + place::NH4];
         return Letter {
-            number: 0,
+            number: refusal::NONE,
             letter: letter(oxygen, ammonium),
         };
     }
     Letter {
-        number: 5,
+        number: refusal::PLACE,
         letter: 0,
     }
 }

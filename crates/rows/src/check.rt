@@ -9,6 +9,7 @@ use numeric::both;
 use stoichiometry::ENTRIES;
 use stoichiometry::PROCESSES;
 use stoichiometry::SUBSTANCES;
+use stoichiometry::place;
 
 // What check 3 asks: 1 that E is below zero, 2 that no NH4, HPO4, O2 or HCO3 is taken up, 0 nothing.
 const ASKED: [u8; PROCESSES] = [1, 1, 1, 1, 1, 1, 1, 1, 1, 1, 0, 0, 1, 2, 2, 0, 0];
@@ -28,10 +29,10 @@ fn asked_met(entries: &[i64; ENTRIES], oxygen: &[i64; PROCESSES], p: usize, aske
     if asked == 1 {
         oxygen[p] < 0
     } else if asked == 2 {
-        let nitrogen = not_taken_up(entries[b + 2]);
-        let phosphate = not_taken_up(entries[b + 5]);
-        let oxygen = not_taken_up(entries[b + 6]);
-        let carbonate = not_taken_up(entries[b + 7]);
+        let nitrogen = not_taken_up(entries[b + place::NH4]);
+        let phosphate = not_taken_up(entries[b + place::HPO4]);
+        let oxygen = not_taken_up(entries[b + place::O2]);
+        let carbonate = not_taken_up(entries[b + place::HCO3]);
         both(both(both(nitrogen, phosphate), oxygen), carbonate)
     } else {
         true

@@ -1,25 +1,21 @@
-// One loop for each kind of call. The rivers, the sets and the records are made before the loop and taken in turn.
+// One loop for each kind of call. The rivers, the sets and the records are made before the loop and taken in turn. What
+// a turn does is in turns.rt.
 use crate::checksum::wide;
 use crate::checksum::with;
-use crate::checksum::with_amounts;
-use crate::checksum::with_carry;
-use crate::checksum::with_signed;
-use crate::frames::frame_of;
 use crate::frames::readings;
-use crate::frames::with_frame;
 use crate::order::Order;
 use crate::records::BYTES;
 use crate::records::records_of;
-use crate::records::with_text;
-use crate::rivers::load_of;
 use crate::rivers::rivers;
-use crate::sets::conditions_of;
 use crate::sets::sets;
-use rows::rows_of;
-use step::step_river;
-use transport::air_river;
-use transport::flow_river;
-use transport::load_river;
+use crate::turns::air_turn;
+use crate::turns::flow_turn;
+use crate::turns::frame_turn;
+use crate::turns::load_turn;
+use crate::turns::read_turn;
+use crate::turns::rows_turn;
+use crate::turns::step_turn;
+use crate::turns::write_turn;
 
 // The checksum of the calls that are asked for; 0 for a letter of no kind.
 pub(crate) fn checksum_of(asked: Order) -> u64 {
@@ -57,10 +53,7 @@ fn steps(calls: u64) -> u64 {
     let mut turn = 0;
     while turn < calls {
         let k = (turn % 8) as usize;
-        let answer = step_river(sets[k], rivers[k], conditions_of(turn));
-        sum = with(sum, answer.number as u64);
-        sum = with_amounts(sum, &answer.river.amounts, turn);
-        sum = with_carry(sum, &answer.river.carries, turn);
+        sum = step_turn(sets[k], rivers[k], sum, turn);
         turn += 1;
     }
     sum
@@ -72,11 +65,7 @@ fn flows(calls: u64) -> u64 {
     let mut turn = 0;
     while turn < calls {
         let k = (turn % 8) as usize;
-        let answer = flow_river(rivers[k], (turn % 10001) as u32);
-        sum = with(sum, answer.number as u64);
-        sum = with_amounts(sum, &answer.river.amounts, turn);
-        sum = with_carry(sum, &answer.river.carries, turn);
-        sum = with_amounts(sum, &answer.left, turn);
+        sum = flow_turn(rivers[k], sum, turn);
         turn += 1;
     }
     sum
@@ -88,17 +77,7 @@ fn airs(calls: u64) -> u64 {
     let mut turn = 0;
     while turn < calls {
         let k = (turn % 8) as usize;
-        let answer = air_river(
-            rivers[k],
-            (1 + turn / 8 % 8) as u32,
-            (turn % 20001) as u32,
-            (1 + turn % 3600) as u32,
-            (8000000 + turn % 4000000) as u32,
-        );
-        sum = with(sum, answer.number as u64);
-        sum = with_signed(sum, answer.amount);
-        sum = with_amounts(sum, &answer.river.amounts, turn);
-        sum = with_carry(sum, &answer.river.carries, turn);
+        sum = air_turn(rivers[k], sum, turn);
         turn += 1;
     }
     sum
@@ -110,15 +89,7 @@ fn loads(calls: u64) -> u64 {
     let mut turn = 0;
     while turn < calls {
         let k = (turn % 8) as usize;
-        let answer = load_river(
-            rivers[k],
-            (1 + turn / 8 % 8) as u32,
-            (1 + turn % 18) as u32,
-            load_of(turn),
-        );
-        sum = with(sum, answer.number as u64);
-        sum = with_amounts(sum, &answer.river.amounts, turn);
-        sum = with_carry(sum, &answer.river.carries, turn);
+        sum = load_turn(rivers[k], sum, turn);
         turn += 1;
     }
     sum
@@ -130,11 +101,7 @@ fn rows(calls: u64) -> u64 {
     let mut turn = 0;
     while turn < calls {
         let k = (turn % 8) as usize;
-        let answer = rows_of(sets[k]);
-        let entry = (turn % 153) as usize;
-        sum = with(sum, answer.number as u64);
-        sum = with_signed(sum, answer.entries[entry]);
-        sum = with_signed(sum, answer.entries[entry + 153]);
+        sum = rows_turn(sets[k], sum, turn);
         turn += 1;
     }
     sum
@@ -148,10 +115,7 @@ fn writes(calls: u64) -> u64 {
     let mut turn = 0;
     while turn < calls {
         let k = (turn % 8) as usize;
-        let number = record::write_record(rivers[k], &mut output, &mut work);
-        sum = with(sum, number as u64);
-        sum = with_text(sum, &output, turn);
-        sum = with_text(sum, &work, turn);
+        sum = write_turn(rivers[k], &mut output, &mut work, sum, turn);
         turn += 1;
     }
     sum
@@ -164,10 +128,7 @@ fn reads(calls: u64) -> u64 {
     while turn < calls {
         let start = (turn % 8) as usize * BYTES;
         let end = start + BYTES;
-        let answer = record_reading::read_record(&texts[start..end]);
-        sum = with(sum, answer.number as u64);
-        sum = with_amounts(sum, &answer.river.amounts, turn);
-        sum = with_carry(sum, &answer.river.carries, turn);
+        sum = read_turn(&texts[start..end], sum, turn);
         turn += 1;
     }
     sum
@@ -178,9 +139,7 @@ fn frames(calls: u64) -> u64 {
     let mut sum = 0;
     let mut turn = 0;
     while turn < calls {
-        let frame = frame_of(&readings, turn);
-        let answer = probe::amounts_of(frame, (8000000 + turn % 4000000) as u32);
-        sum = with_frame(sum, answer);
+        sum = frame_turn(&readings, sum, turn);
         turn += 1;
     }
     sum

@@ -11,6 +11,7 @@ mod order;
 mod records;
 mod rivers;
 mod sets;
+mod turns;
 
 fn main() {
     let mut text = io::buffer();

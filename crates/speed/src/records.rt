@@ -2,10 +2,12 @@
 ghost use Prim.Native.Nat.{_+_, _≤_};
 use crate::checksum::with;
 use crate::rivers::RIVERS;
-use river::CELLS;
+use record::Record;
 use river::River;
 
-pub(crate) const BYTES: usize = CELLS * record::CELL_BYTES;
+pub(crate) const BYTES: usize = River::CELLS_MOST * Record::CELL_BYTES;
+
+const CELL_BYTES: u64 = Record::CELL_BYTES as u64;
 
 pub(crate) const ALL_BYTES: usize = RIVERS * BYTES;
 
@@ -40,10 +42,10 @@ fn wide(x: u8) -> u64 {
 // The checksum with one byte of each cell.
 pub(crate) fn with_text(sum: u64, text: &[u8; BYTES], turn: u64) -> u64 {
     let mut with_all = sum;
-    let mut k = (turn % 945) as usize;
+    let mut k = (turn % CELL_BYTES) as usize;
     while k < BYTES {
         with_all = with(with_all, wide(text[k]));
-        k += record::CELL_BYTES;
+        k += Record::CELL_BYTES;
     }
     with_all
 }

@@ -1,9 +1,9 @@
 // The rivers that the calls are made on: eight cells with all organisms at work, of which no step below runs dry.
 use river::AMOUNTS;
 use river::CARRIES;
-use river::CELLS;
 use river::River;
 use stoichiometry::SUBSTANCES;
+use stoichiometry::place;
 
 pub(crate) const RIVERS: usize = 8;
 
@@ -20,9 +20,9 @@ fn negated(x: i64) -> i64 {
 // The amount of the substance at place s, 0 to 17. `more` tells one river and one cell from another.
 fn amount(s: usize, more: u64) -> i64 {
     let less = more % 10000;
-    if s < 2 || (s >= 9 && s <= 14) {
+    if s < place::NH4 || (s >= place::XH && s <= place::XI) {
         (50000000 + less * 1000) as i64
-    } else if s == 8 || s == 16 {
+    } else if s == place::H_PLUS || s == place::H2O {
         negated((1000000007 * less) as i64)
     } else {
         (100000000000000 + less * 1000003) as i64
@@ -51,7 +51,7 @@ fn carries_of(r: u64) -> [u32; CARRIES] {
 
 fn river_of(r: u64) -> River {
     River {
-        cells: CELLS as u32,
+        cells: River::CELLS_MOST as u32,
         amounts: amounts_of(r),
         carries: carries_of(r),
     }

@@ -4,4 +4,4 @@ pub mod StepArithmetic
 pub mod StepLoop
 pub mod StepLaws
 pub mod StepNumber
-pub mod RowZeros
+pub mod Unchanged

@@ -27,7 +27,7 @@ use Rattle.river.specs.declared.River.{River}
 use Rattle.river.specs.Rivers.{amountAt, carryAt, riverWrong, mostCells}
 use Rattle.river.proofs.Rivers.{river-cells, amount-fits-at, amount-bound, carry-bound}
 use Rattle.kinetics.specs.Conditions.{conditionsWrong}
-use Rattle.step.specs.Steps.{batches, newAmount, steppedAmounts, steppedCarries, batchesWrong}
+use Rattle.step.specs.Steps.{batches, newAmount, steppedAmounts, steppedCarries, batchesWrong, mostBatches}
 use Rattle.step.specs.Stepping.{Whole, Amounts, Going, addedFrom, newFrom, appliedFrom, wholeFrom, restFrom}
 
 module _ (set : Set) (given : Conditions) (r : River) (right : riverWrong r ≡ false) where
@@ -80,15 +80,15 @@ module _ (set : Set) (given : Conditions) (r : River) (right : riverWrong r ≡ 
   applied-is = tab-eq (mostCells * substances) _ _ (λ k h. at-place k h (decLt (k / substances) (r .cells)))
 
   few : ℕ → ℕ → Bool
-  few c p = leb (batches set given (amountAt (r .amounts) c) (carryAt (r .carries) c) p) 100000
+  few c p = leb (batches set given (amountAt (r .amounts) c) (carryAt (r .carries) c) p) mostBatches
 
   -- The test of the whole batches of process p of cell c.
   test : ℕ → ℕ → Bool
-  test c p = leZ (getD whole (c * processes + p) (pos 0)) (pos 100000)
+  test c p = leZ (getD whole (c * processes + p) (pos 0)) (pos mostBatches)
 
   -- Check 7.
-  pub batches-fit-is : every (r .cells) (λ c. every processes (λ p. leZ (getD (tab (mostCells * processes) (wholeFrom set given (r .cells) (r .amounts) (r .carries))) (c * processes + p) (pos 0)) (pos 100000)))
-      ≡ every (r .cells) (λ c. every processes (λ p. leb (batches set given (amountAt (r .amounts) c) (carryAt (r .carries) c) p) 100000))
+  pub batches-fit-is : every (r .cells) (λ c. every processes (λ p. leZ (getD (tab (mostCells * processes) (wholeFrom set given (r .cells) (r .amounts) (r .carries))) (c * processes + p) (pos 0)) (pos mostBatches)))
+      ≡ every (r .cells) (λ c. every processes (λ p. leb (batches set given (amountAt (r .amounts) c) (carryAt (r .carries) c) p) mostBatches))
   unfolding few test whole
   batches-fit-is =
       every-eq (r .cells) (λ c. every processes (test c)) (λ c. every processes (few c))
@@ -104,7 +104,7 @@ module _ (set : Set) (given : Conditions) (r : River) (right : riverWrong r ≡ 
       (0, rw (getD-tab (mostCells * processes) (wholeFrom set given (r .cells) (r .amounts) (r .carries)) k (pos 0) h, le-ltb (k / processes) (r .cells) (omega arith)))
 
   -- Whole batches that passed check 7.
-  few-at : every (r .cells) (λ c. every processes (test c)) ≡ true → (k : ℕ) → k < mostCells * processes → Dec (k / processes < r .cells) → leZ (getD whole k (pos 0)) (pos 100000) ≡ true
+  few-at : every (r .cells) (λ c. every processes (test c)) ≡ true → (k : ℕ) → k < mostCells * processes → Dec (k / processes < r .cells) → leZ (getD whole k (pos 0)) (pos mostBatches) ≡ true
   unfolding test whole wholeFrom
   few-at e k h (yes l) =
       let place : k / processes * processes + k % processes ≡ k = omega arith in
@@ -112,7 +112,7 @@ module _ (set : Set) (given : Conditions) (r : River) (right : riverWrong r ≡ 
   few-at e k h (no g) =
       rw (getD-tab (mostCells * processes) (wholeFrom set given (r .cells) (r .amounts) (r .carries)) k (pos 0) h, le-ltb (k / processes) (r .cells) (omega arith))
 
-  pub whole-small : every (r .cells) (λ c. every processes (λ p. leZ (getD (tab (mostCells * processes) (wholeFrom set given (r .cells) (r .amounts) (r .carries))) (c * processes + p) (pos 0)) (pos 100000))) ≡ true
+  pub whole-small : every (r .cells) (λ c. every processes (λ p. leZ (getD (tab (mostCells * processes) (wholeFrom set given (r .cells) (r .amounts) (r .carries))) (c * processes + p) (pos 0)) (pos mostBatches))) ≡ true
       → Whole (tab (mostCells * processes) (wholeFrom set given (r .cells) (r .amounts) (r .carries)))
   unfolding whole test
   whole-small e =
@@ -121,7 +121,7 @@ module _ (set : Set) (given : Conditions) (r : River) (right : riverWrong r ≡ 
             λ k h.
             let v = whole-value k h (decLt (k / processes) (r .cells)) in
             let t = rw (v .1) at (few-at e k h (decLt (k / processes) (r .cells))) in
-            rw (v .1) (leb-true (v .0) 100000 t);
+            rw (v .1) (leb-true (v .0) mostBatches t);
       }
 
   -- The amounts of a river that passes check 4.
@@ -143,11 +143,11 @@ module _ (set : Set) (given : Conditions) (r : River) (right : riverWrong r ≡ 
   -- The same of the whole batches that the code made.
   module _ (w : List ℤ) (made : w ≡ tab (mostCells * processes) (wholeFrom set given (r .cells) (r .amounts) (r .carries))) where
     -- Check 7.
-    pub made-number : (t : Bool) → t ≡ every (r .cells) (λ c. every processes (λ p. leZ (getD w (c * processes + p) (pos 0)) (pos 100000))) → batchesWrong set given r ≡ not t
+    pub made-number : (t : Bool) → t ≡ every (r .cells) (λ c. every processes (λ p. leZ (getD w (c * processes + p) (pos 0)) (pos mostBatches))) → batchesWrong set given r ≡ not t
     unfolding batchesWrong
     made-number t e = sym (ap not (rw made at e ∙ batches-fit-is))
 
-    pub made-small : every (r .cells) (λ c. every processes (λ p. leZ (getD w (c * processes + p) (pos 0)) (pos 100000))) ≡ true → Whole w
+    pub made-small : every (r .cells) (λ c. every processes (λ p. leZ (getD w (c * processes + p) (pos 0)) (pos mostBatches))) ≡ true → Whole w
     made-small e = rw made (whole-small (rw made at e))
 
     pub made-amounts : (entries out : List ℤ) → entries ≡ rowsOf set → out ≡ appliedFrom (r .cells) (r .amounts) w entries

@@ -6,14 +6,16 @@ ghost use lib.IntN.{pos, natAbs, _+ℤ_};
 ghost use Rattle.numeric.specs.Sum.{sum};
 ghost use Rattle.numeric.specs.Table.{run};
 ghost use Rattle.stoichiometry.specs.Rows.{processes};
-ghost use Rattle.stoichiometry.specs.Substances.{substances};
+ghost use Rattle.stoichiometry.specs.Substances.{substances, mostNet};
 ghost use Rattle.river.specs.Rivers.{mostCells};
-ghost use Rattle.step.specs.Stepping.{changingOf, mayChange, Whole, Entries, Amounts, addedFrom, appliedFrom};
+ghost use Rattle.rows.specs.Changing.{changingOf, mayChange};
+ghost use Rattle.step.specs.Stepping.{Whole, Entries, Amounts, addedFrom, appliedFrom};
 use river::AMOUNTS;
 use river::CARRIES;
 use stoichiometry::ENTRIES;
 use stoichiometry::PROCESSES;
 use stoichiometry::SUBSTANCES;
+use stoichiometry::place;
 
 // What the process at place p adds to the substance at place s; a process that does not change it has no entry for it.
 fn added_by(
@@ -44,7 +46,7 @@ fn added(
     s: usize,
     changing: u32,
 ) -> i64
-    requires { ⌜ (natAbs start ≤ 1000000000000000000) × (at + processes ≤ mostCells * processes) × (s < substances) × Whole (now whole) × Entries (now entries) × (changing ≡ changingOf s) ⌝ }
+    requires { ⌜ (natAbs start ≤ mostNet) × (at + processes ≤ mostCells * processes) × (s < substances) × Whole (now whole) × Entries (now entries) × (changing ≡ changingOf s) ⌝ }
     ensures { λ r. ⌜ r ≡ start +ℤ sum processes (λ p. addedFrom (now (whole .entry)) at (now (entries .entry)) s p) ⌝ }
 {
     let mut total = start;
@@ -87,24 +89,168 @@ pub(crate) fn apply_cell(
     requires { ⌜ (c < mostCells) × Amounts (now amounts) × Whole (now whole) × Entries (now entries) ⌝ }
     ensures { λ r. ⌜ now (out .exit) ≡ run (now (out .entry)) (c * substances) substances (λ s. getD (now (amounts .entry)) (c * substances + s) (pos 0) +ℤ sum processes (λ p. addedFrom (now (whole .entry)) (c * processes) (now (entries .entry)) s p)) ⌝ }
 {
-    apply_one(amounts, whole, entries, c, 0, 0b0_0100_0000_0001_1011, out);
-    apply_one(amounts, whole, entries, c, 1, 0b0_0000_0000_0000_0000, out);
-    apply_one(amounts, whole, entries, c, 2, 0b0_0111_0110_1110_0101, out);
-    apply_one(amounts, whole, entries, c, 3, 0b0_0000_0001_0101_1000, out);
-    apply_one(amounts, whole, entries, c, 4, 0b0_0000_1001_0010_1010, out);
-    apply_one(amounts, whole, entries, c, 5, 0b1_1111_1111_1111_1111, out);
-    apply_one(amounts, whole, entries, c, 6, 0b0_0111_1111_1100_0111, out);
-    apply_one(amounts, whole, entries, c, 7, 0b0_0111_1111_1111_1111, out);
-    apply_one(amounts, whole, entries, c, 8, 0b0_0111_1111_1111_1111, out);
-    apply_one(amounts, whole, entries, c, 9, 0b0_0000_0000_0011_1111, out);
-    apply_one(amounts, whole, entries, c, 10, 0b0_0000_0000_1100_0000, out);
-    apply_one(amounts, whole, entries, c, 11, 0b0_0000_0011_0000_0000, out);
-    apply_one(amounts, whole, entries, c, 12, 0b0_0011_1100_0000_0000, out);
-    apply_one(amounts, whole, entries, c, 13, 0b0_0110_0000_0000_0000, out);
-    apply_one(amounts, whole, entries, c, 14, 0b0_0011_0010_1010_0100, out);
-    apply_one(amounts, whole, entries, c, 15, 0b1_1000_0000_0000_0000, out);
-    apply_one(amounts, whole, entries, c, 16, 0b0_0111_1111_1111_1111, out);
-    apply_one(amounts, whole, entries, c, 17, 0b0_0000_0000_0011_0000, out);
+    apply_one(
+        amounts,
+        whole,
+        entries,
+        c,
+        place::SS,
+        0b0_0100_0000_0001_1011,
+        out,
+    );
+    apply_one(
+        amounts,
+        whole,
+        entries,
+        c,
+        place::SI,
+        0b0_0000_0000_0000_0000,
+        out,
+    );
+    apply_one(
+        amounts,
+        whole,
+        entries,
+        c,
+        place::NH4,
+        0b0_0111_0110_1110_0101,
+        out,
+    );
+    apply_one(
+        amounts,
+        whole,
+        entries,
+        c,
+        place::NO2,
+        0b0_0000_0001_0101_1000,
+        out,
+    );
+    apply_one(
+        amounts,
+        whole,
+        entries,
+        c,
+        place::NO3,
+        0b0_0000_1001_0010_1010,
+        out,
+    );
+    apply_one(
+        amounts,
+        whole,
+        entries,
+        c,
+        place::HPO4,
+        0b1_1111_1111_1111_1111,
+        out,
+    );
+    apply_one(
+        amounts,
+        whole,
+        entries,
+        c,
+        place::O2,
+        0b0_0111_1111_1100_0111,
+        out,
+    );
+    apply_one(
+        amounts,
+        whole,
+        entries,
+        c,
+        place::HCO3,
+        0b0_0111_1111_1111_1111,
+        out,
+    );
+    apply_one(
+        amounts,
+        whole,
+        entries,
+        c,
+        place::H_PLUS,
+        0b0_0111_1111_1111_1111,
+        out,
+    );
+    apply_one(
+        amounts,
+        whole,
+        entries,
+        c,
+        place::XH,
+        0b0_0000_0000_0011_1111,
+        out,
+    );
+    apply_one(
+        amounts,
+        whole,
+        entries,
+        c,
+        place::XN1,
+        0b0_0000_0000_1100_0000,
+        out,
+    );
+    apply_one(
+        amounts,
+        whole,
+        entries,
+        c,
+        place::XN2,
+        0b0_0000_0011_0000_0000,
+        out,
+    );
+    apply_one(
+        amounts,
+        whole,
+        entries,
+        c,
+        place::XALG,
+        0b0_0011_1100_0000_0000,
+        out,
+    );
+    apply_one(
+        amounts,
+        whole,
+        entries,
+        c,
+        place::XS,
+        0b0_0110_0000_0000_0000,
+        out,
+    );
+    apply_one(
+        amounts,
+        whole,
+        entries,
+        c,
+        place::XI,
+        0b0_0011_0010_1010_0100,
+        out,
+    );
+    apply_one(
+        amounts,
+        whole,
+        entries,
+        c,
+        place::XP,
+        0b1_1000_0000_0000_0000,
+        out,
+    );
+    apply_one(
+        amounts,
+        whole,
+        entries,
+        c,
+        place::H2O,
+        0b0_0111_1111_1111_1111,
+        out,
+    );
+    apply_one(
+        amounts,
+        whole,
+        entries,
+        c,
+        place::N2,
+        0b0_0000_0000_0011_0000,
+        out,
+    );
 }
 
 // Writes the new amounts of n cells into a list of zeros.

@@ -13,6 +13,7 @@ use river::amounts_in_bounds;
 use river::river_right;
 use rows::rows_of;
 use stoichiometry::Set;
+use stoichiometry::refusal;
 
 mod apply;
 mod cells;
@@ -29,14 +30,14 @@ pub fn step_river(set: Set, river: River, given: Conditions) -> Changed
     ensures answer { λ r. ⌜ r ≡ stepAnswer set river given ⌝ }
 {
     let rows = rows_of(set);
-    if rows.number != 0 {
+    if rows.number != refusal::NONE {
         return answered(rows.number, river);
     }
     if !river_right(river.cells, &river.amounts, &river.carries) {
-        return answered(4, river);
+        return answered(refusal::RIVER, river);
     }
     if conditions_wrong(given) {
-        return answered(6, river);
+        return answered(refusal::CONDITIONS, river);
     }
     let mut amounts = [0; AMOUNTS];
     let mut rest = [0; CARRIES];
@@ -51,15 +52,15 @@ pub fn step_river(set: Set, river: River, given: Conditions) -> Changed
         &mut rest,
     );
     if !fit {
-        return answered(7, river);
+        return answered(refusal::BATCHES, river);
     }
     if !amounts_in_bounds(river.cells, &amounts) {
-        return answered(8, river);
+        return answered(refusal::BOUNDS, river);
     }
     let after = River {
         cells: river.cells,
         amounts,
         carries: rest,
     };
-    answered(0, after)
+    answered(refusal::NONE, after)
 }

@@ -5,17 +5,32 @@ ghost use lib.ListN.{getD};
 ghost use Rattle.numeric.specs.Check.{every};
 ghost use Rattle.numeric.specs.Table.{run};
 ghost use Rattle.stoichiometry.specs.Rows.{processes};
-ghost use Rattle.river.specs.Rivers.{mostCells};
+ghost use Rattle.river.specs.Rivers.{mostCells, mostCarry};
 ghost use lib.IntN.{pos};
 ghost use lib.Signed.{leZ};
-ghost use Rattle.step.specs.Stepping.{carriedFrom, Extents, Carries};
+ghost use Rattle.step.specs.Steps.{mostBatches};
+ghost use Rattle.step.specs.Stepping.{mostExtent, carriedFrom, Extents, Carries};
 use river::CARRIES;
+use river::River;
 use stoichiometry::PROCESSES;
 
-// One batch, in millionths; the most whole batches of a process in one step of one cell.
+// One batch, in millionths.
 const BATCH: u64 = 1000000;
 
-const BATCHES_MOST: i64 = 100000;
+// The whole batches of a carry with an extent added, and the carry that is left.
+fn whole_of(carry: u32, extent: u64) -> u64
+    requires { ⌜ (carry ≤ mostCarry) × (extent ≤ mostExtent) ⌝ }
+    ensures { λ r. ⌜ r ≡ (carry + extent) / 1000000 ⌝ }
+{
+    (carry as u64 + extent) / BATCH
+}
+
+fn rest_of(carry: u32, extent: u64) -> u32
+    requires { ⌜ (carry ≤ mostCarry) × (extent ≤ mostExtent) ⌝ }
+    ensures { λ r. ⌜ r ≡ (carry + extent) % 1000000 ⌝ }
+{
+    ((carry as u64 + extent) % BATCH) as u32
+}
 
 // The whole batches and the new carries of one cell, whose carries stand from `at` on.
 pub(crate) fn split(
@@ -31,9 +46,10 @@ pub(crate) fn split(
 {
     let mut p = 0;
     while p < PROCESSES {
-        let carried = carries[at + p] as u64 + extents[p];
-        whole[at + p] = (carried / BATCH) as i64;
-        rest[at + p] = (carried % BATCH) as u32;
+        let carry = carries[at + p];
+        let extent = extents[p];
+        whole[at + p] = whole_of(carry, extent) as i64;
+        rest[at + p] = rest_of(carry, extent);
         p += 1;
     }
 }
@@ -41,11 +57,11 @@ pub(crate) fn split(
 // No process of the cell whose batches stand from `at` on reaches more than 100,000 whole batches.
 fn cell_batches_fit(whole: &[i64; CARRIES], at: usize) -> bool
     requires { ⌜ at + processes ≤ mostCells * processes ⌝ }
-    ensures { λ r. ⌜ r ≡ every processes (λ p. leZ (getD (now (whole .entry)) (at + p) (pos 0)) (pos 100000)) ⌝ }
+    ensures { λ r. ⌜ r ≡ every processes (λ p. leZ (getD (now (whole .entry)) (at + p) (pos 0)) (pos mostBatches)) ⌝ }
 {
     let mut p = 0;
     while p < PROCESSES {
-        if whole[at + p] <= BATCHES_MOST {
+        if whole[at + p] <= River::BATCHES_MOST {
             p += 1;
         } else {
             return false;
@@ -57,7 +73,7 @@ fn cell_batches_fit(whole: &[i64; CARRIES], at: usize) -> bool
 // Check 7: no process of the n cells does.
 pub(crate) fn batches_fit(n: usize, whole: &[i64; CARRIES]) -> bool
     requires { ⌜ n ≤ mostCells ⌝ }
-    ensures { λ r. ⌜ r ≡ every n (λ c. every processes (λ p. leZ (getD (now (whole .entry)) (c * processes + p) (pos 0)) (pos 100000))) ⌝ }
+    ensures { λ r. ⌜ r ≡ every n (λ c. every processes (λ p. leZ (getD (now (whole .entry)) (c * processes + p) (pos 0)) (pos mostBatches))) ⌝ }
 {
     let mut c = 0;
     while c < n {

@@ -4,3 +4,4 @@ pub mod Exact
 pub mod Balance
 pub mod Batches
 pub mod SetNumber
+pub mod PublishedSet

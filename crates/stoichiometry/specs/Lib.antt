@@ -1,4 +1,6 @@
 pub mod Substances
+pub mod Limits
+pub mod Levels
 pub mod Parameters
 pub mod Rows
 pub mod Sets

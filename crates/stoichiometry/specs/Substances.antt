@@ -50,6 +50,17 @@ place xp = 15
 place h2o = 16
 place n2 = 17
 
+-- The most of an amount: of an organic, µg; of any other substance, grains; of the net changes H+ and H2O, grains,
+-- either way.
+abbrev pub mostOrganic : ℕ
+mostOrganic = 1000000000
+
+abbrev pub mostGrains : ℕ
+mostGrains = 10000000000000000
+
+abbrev pub mostNet : ℕ
+mostNet = 1000000000000000000
+
 -- Grains of an element's substance in one µg of the element, the customer's W: O in O2, N in NH4, NO2 or NO3, P in
 -- HPO4 or XP.
 abbrev pub grainsPerMicrogramO : ℕ

@@ -15,7 +15,7 @@ fn adds_up(f: Fractions) -> bool
     ensures { λ r. ⌜ r ≡ addsUp f ⌝ }
 {
     f.carbon as u64 + f.hydrogen as u64 + f.oxygen as u64 + f.nitrogen as u64 + f.phosphorus as u64
-        == 1000
+        == Fractions::SUM
 }
 
 pub(crate) fn fractions_wrong(set: Set) -> bool
@@ -59,8 +59,8 @@ pub(crate) fn yields_fit(y: Yields, f: InertFractions) -> bool
     ];
     let inert = [f.bacteria, f.algae];
     both(
-        all_in_range(&yields, Set::YIELD_LEAST, Set::YIELD_MOST),
-        all_in_range(&inert, 0, Set::INERT_MOST),
+        all_in_range(&yields, Yields::LEAST, Yields::MOST),
+        all_in_range(&inert, 0, InertFractions::MOST),
     )
 }
 
@@ -106,8 +106,8 @@ pub(crate) fn constants_fit(k: RateConstants, h: HalfSaturations) -> bool
         h.algae.phosphate,
     ];
     both(
-        all_in_range(&rates, 0, Set::RATE_MOST),
-        all_in_range(&half, Set::HALF_SATURATION_LEAST, Set::HALF_SATURATION_MOST),
+        all_in_range(&rates, 0, RateConstants::MOST),
+        all_in_range(&half, HalfSaturations::LEAST, HalfSaturations::MOST),
     )
 }
 

@@ -11,6 +11,7 @@ use river::Totals;
 use stoichiometry::Fractions;
 use stoichiometry::SUBSTANCES;
 use stoichiometry::Set;
+use stoichiometry::refusal;
 
 // The totals by number.
 const CARBON: usize = 0;
@@ -28,7 +29,14 @@ const CHARGE: usize = 5;
 const TOTALS: usize = 6;
 
 // Grains of an element in a thousandth of a µg of it: C, H, O, N, P. Organics have no charge.
-const ELEMENT_GRAINS: [i64; TOTALS] = [26040, 312480, 19530, 22320, 10080, 0];
+const ELEMENT_GRAINS: [i64; TOTALS] = [
+    Fractions::CARBON_GRAINS,
+    Fractions::HYDROGEN_GRAINS,
+    Fractions::OXYGEN_GRAINS,
+    Fractions::NITROGEN_GRAINS,
+    Fractions::PHOSPHORUS_GRAINS,
+    0,
+];
 
 // Atoms of C, H, O, N, P, and the charge. XP is adsorbed HPO4.
 const NH4: [i64; TOTALS] = [0, 4, 0, 1, 0, 1];
@@ -120,7 +128,7 @@ pub(crate) fn totals_at(set: Set, amounts: &[i64; AMOUNTS], start: usize) -> Tot
     ensures { λ r. ⌜ r ≡ totalsAt set (now (amounts .entry)) start ⌝ }
 {
     Totals {
-        number: 0,
+        number: refusal::NONE,
         carbon: total(set, amounts, start, CARBON),
         hydrogen: total(set, amounts, start, HYDROGEN),
         oxygen: total(set, amounts, start, OXYGEN),

@@ -10,6 +10,7 @@ use river::river_right;
 use rows::number_of;
 use stoichiometry::SUBSTANCES;
 use stoichiometry::Set;
+use stoichiometry::refusal;
 
 mod cell_totals;
 
@@ -18,15 +19,15 @@ pub fn totals_of(set: Set, river: River, cell: u32) -> Totals
     ensures answer { λ r. ⌜ r ≡ totalsAnswer set river cell ⌝ }
 {
     let number = number_of(set);
-    if number != 0 {
+    if number != refusal::NONE {
         return refused_totals(number);
     }
     if !river_right(river.cells, &river.amounts, &river.carries) {
-        return refused_totals(4);
+        return refused_totals(refusal::RIVER);
     }
     if both(1 <= cell, cell <= river.cells) {
         let cell_start = (cell - 1) as usize * SUBSTANCES;
         return totals_at(set, &river.amounts, cell_start);
     }
-    refused_totals(5)
+    refused_totals(refusal::PLACE)
 }

@@ -18,37 +18,39 @@ use Rattle.numeric.proofs.CheckLaws.{and-left, and-right}
 use Rattle.numeric.proofs.Expression.{v, _⊖_, ⊝, equal}
 use Rattle.numeric.proofs.Quotient.{quot-neg}
 use Rattle.numeric.proofs.RingLaws.{neg-*ℤ}
-use Rattle.stoichiometry.specs.Substances.{o2, place, grainsPerMicrogramO}
+use Rattle.stoichiometry.specs.Substances.{o2, place, grainsPerMicrogramO, mostGrains}
 use Rattle.river.specs.declared.River.{River}
-use Rattle.river.specs.Rivers.{lowestAt, highestAt, amountFits, amountAt, levelOf, riverWrong, cellExists}
+use Rattle.stoichiometry.specs.Levels.{levelOf}
+use Rattle.river.specs.Rivers.{lowestAt, highestAt, amountFits, amountAt, riverWrong, cellExists}
 use Rattle.transport.specs.declared.Aired.{Aired}
 use Rattle.transport.specs.Load.{withAmount}
 use Rattle.transport.specs.Air.{exchanged, gain, gainAt, airedAmount, airFigureWrong, airNumber, airAnswer}
 use Rattle.river.proofs.Bounds.{fits-lowest, fits-highest}
 use Rattle.river.proofs.Rivers.{amount-fits-at, cell-bound}
+use Rattle.stoichiometry.specs.Limits.{mostSeconds, mostSaturation}
 
 -- An amount of O2 in its bounds is a number of grains up to 10^16, and such a number is in them.
 pub oxygen-grains : (x : ℤ) → amountFits (place o2) x ≡ true → pos (natAbs x) ≡ x
 unfolding lowestAt
 oxygen-grains x e = pos-natAbs x (yes-nonNeg (fits-lowest (place o2) x e))
 
-pub oxygen-bound : (x : ℤ) → amountFits (place o2) x ≡ true → natAbs x ≤ 10000000000000000
+pub oxygen-bound : (x : ℤ) → amountFits (place o2) x ≡ true → natAbs x ≤ mostGrains
 unfolding lowestAt highestAt
 oxygen-bound x e =
-    abs-of-nonneg x 10000000000000000 (fits-lowest (place o2) x e) (fits-highest (place o2) x e)
+    abs-of-nonneg x mostGrains (fits-lowest (place o2) x e) (fits-highest (place o2) x e)
 
-pub oxygen-fits : (n : ℕ) → n ≤ 10000000000000000 → amountFits (place o2) (pos n) ≡ true
+pub oxygen-fits : (n : ℕ) → n ≤ mostGrains → amountFits (place o2) (pos n) ≡ true
 unfolding amountFits lowestAt highestAt
-oxygen-fits n h = rw (le-leb 0 n zero-le, le-leb n 10000000000000000 h)
+oxygen-fits n h = rw (le-leb 0 n zero-le, le-leb n mostGrains h)
 
 pub oxygen-level-bound : (x : ℤ) → amountFits (place o2) x ≡ true → levelOf o2 x ≤ 1024065540
 unfolding levelOf
 oxygen-level-bound x e = omega (arith, oxygen-bound x e)
 
-pub exchange-bound : (k seconds : ℕ) → k ≤ 20000 → seconds ≤ 3600 → k * 1000000 * seconds ≤ 72000000000000
+pub exchange-bound : (k seconds : ℕ) → k ≤ 20000 → seconds ≤ mostSeconds → k * 1000000 * seconds ≤ 72000000000000
 exchange-bound k seconds hk hs = mul-le-mul (mul-le-mul hk (le-refl 1000000)) hs
 
-pub exchanged-bound : (k seconds : ℕ) → k ≤ 20000 → seconds ≤ 3600 → exchanged k seconds ≤ 833333333
+pub exchanged-bound : (k seconds : ℕ) → k ≤ 20000 → seconds ≤ mostSeconds → exchanged k seconds ≤ 833333333
 unfolding exchanged
 exchanged-bound k seconds hk hs = omega (arith, exchange-bound k seconds hk hs)
 
@@ -60,27 +62,27 @@ moved k seconds d = d * exchanged k seconds / 1000000000
 record OxygenAfter (saturation n : ℕ) (x : ℤ) : Type 0 where
   grains : ℕ
   is : x ≡ pos grains
-  most : grains ≤ 10000000000000000
+  most : grains ≤ mostGrains
   rising : levelOf o2 (pos n) ≤ saturation → (levelOf o2 (pos n) ≤ levelOf o2 x) × (levelOf o2 x ≤ saturation)
   falling : saturation ≤ levelOf o2 (pos n) → (saturation ≤ levelOf o2 x) × (levelOf o2 x ≤ levelOf o2 (pos n))
 
 module _ (k seconds saturation : ℕ) (figures : airFigureWrong k seconds saturation ≡ false) where
-  in-range : leb k 20000 && (leb 1 seconds && leb seconds 3600) && leb saturation 20000000 ≡ true
+  in-range : leb k 20000 && (leb 1 seconds && leb seconds mostSeconds) && leb saturation mostSaturation ≡ true
   unfolding airFigureWrong
   in-range = not-false _ figures
 
-  rate-in-range : leb k 20000 && (leb 1 seconds && leb seconds 3600) ≡ true
-  rate-in-range = and-left _ (leb saturation 20000000) in-range
+  rate-in-range : leb k 20000 && (leb 1 seconds && leb seconds mostSeconds) ≡ true
+  rate-in-range = and-left _ (leb saturation mostSaturation) in-range
 
   pub constant-bound : k ≤ 20000
-  constant-bound = leb-true k 20000 (and-left _ (leb 1 seconds && leb seconds 3600) rate-in-range)
+  constant-bound = leb-true k 20000 (and-left _ (leb 1 seconds && leb seconds mostSeconds) rate-in-range)
 
-  pub seconds-bound : seconds ≤ 3600
-  seconds-bound = leb-true seconds 3600 (and-right (leb 1 seconds) _ (and-right (leb k 20000) _ rate-in-range))
+  pub seconds-bound : seconds ≤ mostSeconds
+  seconds-bound = leb-true seconds mostSeconds (and-right (leb 1 seconds) _ (and-right (leb k 20000) _ rate-in-range))
 
-  pub saturation-bound : saturation ≤ 20000000
+  pub saturation-bound : saturation ≤ mostSaturation
   saturation-bound =
-      leb-true saturation 20000000 (and-right (leb k 20000 && (leb 1 seconds && leb seconds 3600)) _ in-range)
+      leb-true saturation mostSaturation (and-right (leb k 20000 && (leb 1 seconds && leb seconds mostSeconds)) _ in-range)
 
   moved-le : (d : ℕ) → moved k seconds d ≤ d
   unfolding moved
@@ -118,7 +120,7 @@ module _ (k seconds saturation : ℕ) (figures : airFigureWrong k seconds satura
       )
       (equal (pos n ∷ pos less ∷ pos (n - less) ∷ []) (v 0 ⊖ v 1) (v 2) (omega (arith, moved-le d)))
 
-  aired-grains : (n : ℕ) → n ≤ 10000000000000000 → Dec (levelOf o2 (pos n) ≤ saturation)
+  aired-grains : (n : ℕ) → n ≤ mostGrains → Dec (levelOf o2 (pos n) ≤ saturation)
       → OxygenAfter saturation n (pos n +ℤ gain k seconds saturation (pos n))
   unfolding levelOf
   aired-grains n h (yes l) =

@@ -13,11 +13,11 @@ use lib.IntN.{ℤ, pos, _+ℤ_, _-ℤ_, +ℤ-idr}
 use Rattle.numeric.proofs.Bounds.{abs-sub}
 use Rattle.numeric.proofs.TableLaws.{tab-length}
 use Rattle.numeric.proofs.Filling.{run-length, run-at, run-other}
-use Rattle.stoichiometry.specs.Substances.{substances}
+use Rattle.stoichiometry.specs.Substances.{substances, mostNet}
 use Rattle.river.specs.declared.River.{River}
 use Rattle.river.specs.Rivers.{mostCells, riverWrong}
 use Rattle.transport.specs.Flow.{leftOf, cameAt, movedOf}
-use Rattle.transport.specs.Stages.{largest, AmountsWithin, SmallAmounts, stayedOf, joinedOf}
+use Rattle.transport.specs.Stages.{AmountsWithin, SmallAmounts, stayedOf, joinedOf}
 use Rattle.river.proofs.Rivers.{amount-bound}
 use Rattle.transport.proofs.FlowLaws.{passing-bound, left-at, came-first, came-next, came-beyond, moved-at}
 
@@ -42,7 +42,7 @@ module _ (n : ℕ) (amounts left : List ℤ) (long : length amounts ≡ mostCell
   stayed-length : length (stayedOf amounts left) ≡ mostCells * substances
   stayed-length = run-length amounts 0 (mostCells * substances) (λ (j : ℕ). getD amounts j (pos 0) -ℤ getD left j (pos 0)) ∙ long
 
-  pub stayed-small : SmallAmounts amounts → SmallAmounts left → AmountsWithin (2 * largest) (stayedOf amounts left)
+  pub stayed-small : SmallAmounts amounts → SmallAmounts left → AmountsWithin (2 * mostNet) (stayedOf amounts left)
   stayed-small a b =
       record {
         small = λ k h. rw (stayed-at k h)

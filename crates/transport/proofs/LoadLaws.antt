@@ -12,13 +12,13 @@ use Rattle.numeric.specs.Check.{firstHolding}
 use Rattle.numeric.proofs.Bounds.{abs-parts, abs-sub}
 use Rattle.numeric.proofs.Expression.{v, #, _⊕_, _⊖_, below-of}
 use Rattle.numeric.proofs.Ring.{solve}
-use Rattle.stoichiometry.specs.Substances.{substances}
+use Rattle.stoichiometry.specs.Substances.{substances, mostNet}
 use Rattle.river.specs.declared.River.{River}
 use Rattle.river.specs.Rivers.{amountFits, riverWrong, cellExists, substanceExists}
 use Rattle.transport.specs.Load.{withAmount, loadedAmount, loadNumber, loadAnswer}
 use Rattle.river.proofs.Bounds.{fits-bound}
 
-module _ (s : ℕ) (x y : ℤ) (h : s < substances) (small : natAbs x ≤ 1000000000000000000) where
+module _ (s : ℕ) (x y : ℤ) (h : s < substances) (small : natAbs x ≤ mostNet) where
   too-large : 2000000000000000000 < natAbs y → (fits : Bool) → amountFits s (x +ℤ y) ≡ fits → fits ≡ false
   too-large large true e =
       let most = fits-bound s (x +ℤ y) h e in

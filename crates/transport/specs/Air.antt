@@ -9,12 +9,14 @@ use Rattle.numeric.specs.Check.{firstHolding, _when_}
 use Rattle.stoichiometry.specs.Substances.{o2, place, grainsPerMicrogramO}
 use Rattle.river.specs.declared.River.{River}
 use Rattle.transport.specs.declared.Aired.{Aired}
-use Rattle.river.specs.Rivers.{amountFits, amountAt, levelOf, riverWrong, cellExists}
+use Rattle.stoichiometry.specs.Levels.{levelOf}
+use Rattle.river.specs.Rivers.{amountFits, amountAt, riverWrong, cellExists}
 use Rattle.transport.specs.Load.{withAmount}
+use Rattle.stoichiometry.specs.Limits.{mostSeconds, mostSaturation, secondsPerDay}
 
 -- g: k × 10^6 × seconds / 86,400, rounded down, in 10^-9; k in thousandths per day.
 unfoldable pub exchanged : ℕ → ℕ → ℕ
-exchanged k seconds = k * 1000000 * seconds / 86400
+exchanged k seconds = k * 1000000 * seconds / secondsPerDay
 
 -- The O2 that air brings to an amount of O2, grains, signed: d × g / 10^9 µg, rounded toward zero, times W, with d the
 -- saturation less the level, µg.
@@ -31,7 +33,7 @@ airedAmount r c k seconds saturation = amountAt (r .amounts) c (place o2) +ℤ g
 
 -- Check 6 of air.
 unfoldable pub airFigureWrong : ℕ → ℕ → ℕ → Bool
-airFigureWrong k seconds saturation = not (leb k 20000 && (leb 1 seconds && leb seconds 3600) && leb saturation 20000000)
+airFigureWrong k seconds saturation = not (leb k 20000 && (leb 1 seconds && leb seconds mostSeconds) && leb saturation mostSaturation)
 
 -- 8 is stated as for every call; a law shows that it never comes.
 unfoldable pub airNumber : River → ℕ → ℕ → ℕ → ℕ → ℕ

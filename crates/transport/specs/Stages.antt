@@ -6,19 +6,15 @@ use mathlib.Core.List.{List}
 use lib.ListN.{getD}
 use lib.IntN.{ℤ, pos, natAbs, _+ℤ_, _-ℤ_}
 use Rattle.numeric.specs.Table.{run}
-use Rattle.stoichiometry.specs.Substances.{substances}
+use Rattle.stoichiometry.specs.Substances.{substances, mostNet}
 use Rattle.river.specs.Rivers.{mostCells}
-
--- The greatest size of an amount: 10^18.
-abbrev pub largest : ℕ
-largest = 1000000000000000000
 
 -- No amount is larger than `most`; than the greatest size.
 pub record AmountsWithin (most : ℕ) (amounts : List ℤ) : Type 0 where
   pub small : (k : ℕ) → k < mostCells * substances → natAbs (getD amounts k (pos 0)) ≤ most
 
 abbrev pub SmallAmounts : List ℤ → Type 0
-SmallAmounts = AmountsWithin largest
+SmallAmounts = AmountsWithin mostNet
 
 -- What stays of each amount.
 abbrev pub stayedOf : List ℤ → List ℤ → List ℤ

@@ -3,30 +3,29 @@ ghost use mathlib.Core.Path.{_≡_};
 ghost use mathlib.Core.Bool.{true, false};
 ghost use Prim.Native.Nat.{_≤_};
 ghost use lib.IntN.{pos};
+ghost use Rattle.stoichiometry.specs.Limits.{mostSeconds};
 ghost use Rattle.stoichiometry.specs.Substances.{o2, place};
-ghost use Rattle.river.specs.Rivers.{amountFits, levelOf};
+ghost use Rattle.stoichiometry.specs.Levels.{levelOf};
+ghost use Rattle.river.specs.Rivers.{amountFits};
 ghost use Rattle.transport.specs.Air.{exchanged, gain, airFigureWrong};
+use crate::Aired;
 use numeric::both;
-use river::River;
+use stoichiometry::Saturation;
+use stoichiometry::Seconds;
 use stoichiometry::Set;
-
-// The place of O2 in the order of substances, counted from 0.
-pub(crate) const O2: usize = 6;
 
 // The air constant is in thousandths per day, the part of a difference that is exchanged in billionths.
 const BILLIONTHS_PER_THOUSANDTH: u64 = 1000000;
 
 const BILLIONTHS: i64 = 1000000000;
 
-const SECONDS_PER_DAY: u64 = 86400;
-
 // Check 6 of air.
 pub(crate) fn figure_wrong(constant: u32, seconds: u32, saturation: u32) -> bool
     ensures { λ r. ⌜ r ≡ airFigureWrong constant seconds saturation ⌝ }
 {
-    let time = both(1 <= seconds, seconds <= River::SECONDS_MOST);
-    let rate = both(constant <= River::AIR_CONSTANT_MOST, time);
-    !both(rate, saturation <= River::SATURATION_MOST)
+    let time = both(Seconds::LEAST <= seconds, seconds <= Seconds::MOST);
+    let rate = both(constant <= Aired::CONSTANT_MOST, time);
+    !both(rate, saturation <= Saturation::MOST)
 }
 
 fn wide(x: u32) -> i64
@@ -38,10 +37,10 @@ fn wide(x: u32) -> i64
 // The customer's g: the part of a difference that is exchanged, in billionths.
 fn exchanged_part(constant: u32, seconds: u32) -> i64
     requires constant { ⌜ constant ≤ 20000 ⌝ }
-    requires seconds { ⌜ seconds ≤ 3600 ⌝ }
+    requires seconds { ⌜ seconds ≤ mostSeconds ⌝ }
     ensures { λ r. ⌜ r ≡ pos (exchanged constant seconds) ⌝ }
 {
-    (constant as u64 * BILLIONTHS_PER_THOUSANDTH * seconds as u64 / SECONDS_PER_DAY) as i64
+    (constant as u64 * BILLIONTHS_PER_THOUSANDTH * seconds as u64 / Seconds::PER_DAY) as i64
 }
 
 // The level of an amount of O2, µg. The amount is not negative, so the quotient is rounded down.

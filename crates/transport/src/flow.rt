@@ -3,15 +3,16 @@ ghost use mathlib.Core.Path.{_≡_};
 ghost use Prim.Native.Nat.{_≤_, _*_, _/_};
 ghost use lib.ListN.{length};
 ghost use lib.IntN.{natAbs, _+ℤ_, _-ℤ_};
-ghost use Rattle.stoichiometry.specs.Substances.{substances};
+ghost use Rattle.stoichiometry.specs.Substances.{substances, mostNet};
 ghost use Rattle.river.specs.Rivers.{mostCells};
 ghost use Rattle.transport.specs.Flow.{passing, leftOf, movedOf};
-ghost use Rattle.transport.specs.Stages.{largest, AmountsWithin, SmallAmounts, stayedOf, joinedOf};
+ghost use Rattle.transport.specs.Stages.{AmountsWithin, SmallAmounts, stayedOf, joinedOf};
+use crate::Flowed;
 use river::AMOUNTS;
 use stoichiometry::SUBSTANCES;
 
-// Parts are ten-thousandths.
-const WHOLE: u64 = 10000;
+// Parts are ten-thousandths: the most is the whole.
+const WHOLE: u64 = Flowed::PART_MOST as u64;
 
 // The part of a number, rounded down. The number is divided first, since number × part does not fit.
 fn part_of(number: u64, part: u64) -> u64
@@ -23,7 +24,7 @@ fn part_of(number: u64, part: u64) -> u64
 
 // What passes of one amount, rounded toward zero: the part of its size, with its sign.
 fn passed(amount: i64, part: u64) -> i64
-    requires { ⌜ (part ≤ 10000) × (natAbs amount ≤ largest) ⌝ }
+    requires { ⌜ (part ≤ 10000) × (natAbs amount ≤ mostNet) ⌝ }
     ensures { λ r. ⌜ r ≡ passing part amount ⌝ }
 {
     if amount < 0 {
@@ -47,7 +48,7 @@ pub(crate) fn left_all(amounts: &[i64; AMOUNTS], part: u64) -> [i64; AMOUNTS]
 }
 
 fn less(amount: i64, left: i64) -> i64
-    requires { ⌜ (natAbs amount ≤ largest) × (natAbs left ≤ largest) ⌝ }
+    requires { ⌜ (natAbs amount ≤ mostNet) × (natAbs left ≤ mostNet) ⌝ }
     ensures { λ r. ⌜ r ≡ amount -ℤ left ⌝ }
 {
     amount - left
@@ -66,7 +67,7 @@ fn take_left(amounts: &mut [i64; AMOUNTS], left: &[i64; AMOUNTS])
 }
 
 fn with(stayed: i64, came: i64) -> i64
-    requires { ⌜ (natAbs stayed ≤ 2 * largest) × (natAbs came ≤ largest) ⌝ }
+    requires { ⌜ (natAbs stayed ≤ 2 * mostNet) × (natAbs came ≤ mostNet) ⌝ }
     ensures { λ r. ⌜ r ≡ stayed +ℤ came ⌝ }
 {
     stayed + came
@@ -74,7 +75,7 @@ fn with(stayed: i64, came: i64) -> i64
 
 // What left a cell comes into the next. Nothing comes into the first cell, nor beyond the last.
 fn add_came(cells: usize, amounts: &mut [i64; AMOUNTS], left: &[i64; AMOUNTS])
-    requires { ⌜ (1 ≤ cells) × (cells ≤ mostCells) × AmountsWithin (2 * largest) (now amounts) × SmallAmounts (now left) ⌝ }
+    requires { ⌜ (1 ≤ cells) × (cells ≤ mostCells) × AmountsWithin (2 * mostNet) (now amounts) × SmallAmounts (now left) ⌝ }
     ensures { λ _. ⌜ now (amounts .exit) ≡ joinedOf cells (now (amounts .entry)) (now (left .entry)) ⌝ }
 {
     let end = (cells - 1) * SUBSTANCES;

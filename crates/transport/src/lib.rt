@@ -3,7 +3,6 @@ ghost use mathlib.Core.Path.{_≡_};
 ghost use Rattle.transport.specs.Load.{loadAnswer};
 ghost use Rattle.transport.specs.Flow.{flowAnswer};
 ghost use Rattle.transport.specs.Air.{airAnswer};
-use crate::air::O2;
 use crate::air::figure_wrong;
 use crate::air::gain_of;
 use crate::flow::left_all;
@@ -18,6 +17,8 @@ use river::AMOUNTS;
 use river::Changed;
 use river::River;
 use river::river_right;
+use stoichiometry::place;
+use stoichiometry::refusal;
 
 mod air;
 mod flow;
@@ -30,6 +31,11 @@ pub struct Flowed {
     pub left: [i64; AMOUNTS],
 }
 
+impl Flowed {
+    // Ten-thousandths.
+    pub const PART_MOST: u32 = 10000;
+}
+
 // The river after air, and the signed amount of O2 it brought, grains; on refusal the number, the river handed in,
 // and 0.
 pub struct Aired {
@@ -38,27 +44,35 @@ pub struct Aired {
     pub amount: i64,
 }
 
+impl Aired {
+    // Thousandths per day.
+    pub const CONSTANT_MOST: u32 = 20000;
+}
+
 // Adds a number, of either sign, to an amount; the cell and the substance are counted from 1. Refuses with 4, 5 or 8,
 // in this order.
 pub fn load_river(river: River, cell: u32, substance: u32, number: i64) -> Changed
     ensures answer { λ r. ⌜ r ≡ loadAnswer river cell substance number ⌝ }
 {
     // The answer's river is tested and changed in place: no other copy of it is made.
-    let mut answer = Changed { number: 0, river };
+    let mut answer = Changed {
+        number: refusal::NONE,
+        river,
+    };
     let cells = answer.river.cells;
     if !river_right(cells, &answer.river.amounts, &answer.river.carries) {
-        answer.number = 4;
+        answer.number = refusal::RIVER;
         return answer;
     }
     if !both(cell_exists(cells, cell), substance_exists(substance)) {
-        answer.number = 5;
+        answer.number = refusal::PLACE;
         return answer;
     }
     let c = (cell - 1) as usize;
     let s = (substance - 1) as usize;
     let amount = amount_at(&answer.river.amounts, c, s);
     if !sum_fits(s, amount, number) {
-        answer.number = 8;
+        answer.number = refusal::BOUNDS;
         return answer;
     }
     set_amount(&mut answer.river.amounts, c, s, amount + number);
@@ -72,17 +86,17 @@ pub fn flow_river(river: River, part: u32) -> Flowed
 {
     // The answer's river is tested and changed in place: no other copy of it is made.
     let mut answer = Flowed {
-        number: 0,
+        number: refusal::NONE,
         river,
         left: [0; AMOUNTS],
     };
     let cells = answer.river.cells;
     if !river_right(cells, &answer.river.amounts, &answer.river.carries) {
-        answer.number = 4;
+        answer.number = refusal::RIVER;
         return answer;
     }
-    if part > River::PART_MOST {
-        answer.number = 6;
+    if part > Flowed::PART_MOST {
+        answer.number = refusal::CONDITIONS;
         return answer;
     }
     let left = left_all(&answer.river.amounts, part as u64);
@@ -99,27 +113,27 @@ pub fn air_river(river: River, cell: u32, constant: u32, seconds: u32, saturatio
 {
     // The answer's river is tested and changed in place: no other copy of it is made.
     let mut answer = Aired {
-        number: 0,
+        number: refusal::NONE,
         river,
         amount: 0,
     };
     let cells = answer.river.cells;
     if !river_right(cells, &answer.river.amounts, &answer.river.carries) {
-        answer.number = 4;
+        answer.number = refusal::RIVER;
         return answer;
     }
     if !cell_exists(cells, cell) {
-        answer.number = 5;
+        answer.number = refusal::PLACE;
         return answer;
     }
     if figure_wrong(constant, seconds, saturation) {
-        answer.number = 6;
+        answer.number = refusal::CONDITIONS;
         return answer;
     }
     let c = (cell - 1) as usize;
-    let amount = amount_at(&answer.river.amounts, c, O2);
+    let amount = amount_at(&answer.river.amounts, c, place::O2);
     let brought = gain_of(constant, seconds, saturation, amount);
-    set_amount(&mut answer.river.amounts, c, O2, amount + brought);
+    set_amount(&mut answer.river.amounts, c, place::O2, amount + brought);
     answer.amount = brought;
     answer
 }

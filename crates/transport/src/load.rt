@@ -6,15 +6,16 @@ ghost use Prim.Native.Nat.{_+_, _*_, _<_, _≤_};
 ghost use lib.Dec.{leb};
 ghost use lib.ListN.{set};
 ghost use lib.IntN.{natAbs, _+ℤ_};
-ghost use Rattle.stoichiometry.specs.Substances.{substances};
+ghost use Rattle.stoichiometry.specs.Substances.{substances, mostNet};
 ghost use Rattle.river.specs.Rivers.{mostCells, amountFits, amountAt, substanceExists};
 use numeric::both;
 use river::AMOUNTS;
+use river::River;
 use river::amount_in_bounds;
 use stoichiometry::SUBSTANCES;
 
 // The amounts before and after are within River::NET_MOST of 0, so no load is more than twice that, either way.
-const LOAD_MOST: i64 = 2000000000000000000;
+const LOAD_MOST: i64 = 2 * River::NET_MOST;
 
 // A cell and a substance by their numbers, counted from 1.
 pub(crate) fn cell_exists(cells: u32, cell: u32) -> bool
@@ -50,7 +51,7 @@ pub(crate) fn set_amount(amounts: &mut [i64; AMOUNTS], c: usize, s: usize, x: i6
 // that the sum fits 64 bits.
 pub(crate) fn sum_fits(s: usize, amount: i64, number: i64) -> bool
     requires substance { ⌜ s < substances ⌝ }
-    requires amount { ⌜ natAbs amount ≤ 1000000000000000000 ⌝ }
+    requires amount { ⌜ natAbs amount ≤ mostNet ⌝ }
     ensures { λ r. ⌜ r ≡ amountFits s (amount +ℤ number) ⌝ }
 {
     if number < -LOAD_MOST {

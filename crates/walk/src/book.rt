@@ -2,7 +2,6 @@
 // substance contains is asked of a river that holds that and nothing else.
 use river::AMOUNTS;
 use river::CARRIES;
-use river::CELLS;
 use river::River;
 use river::Totals;
 use stoichiometry::SUBSTANCES;
@@ -83,7 +82,7 @@ fn negated(a: Totals) -> Totals {
 // What stands for a cell in a list of amounts.
 fn contents(set: Set, amounts: [i64; AMOUNTS], cell: u32) -> Totals {
     let held = River {
-        cells: CELLS as u32,
+        cells: River::CELLS_MOST as u32,
         amounts,
         carries: [0; CARRIES],
     };

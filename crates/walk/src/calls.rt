@@ -1,31 +1,32 @@
 // The calls of the walk.
 use crate::walk::Walk;
 use stoichiometry::Set;
+use stoichiometry::place;
 
-// Substances, counted from 1.
-const SS: u32 = 1;
+// Substances by number, one more than their place.
+const SS: u32 = place::SS as u32 + 1;
 
-const NH4: u32 = 3;
+const NH4: u32 = place::NH4 as u32 + 1;
 
-const NO2: u32 = 4;
+const NO2: u32 = place::NO2 as u32 + 1;
 
-const NO3: u32 = 5;
+const NO3: u32 = place::NO3 as u32 + 1;
 
-const HPO4: u32 = 6;
+const HPO4: u32 = place::HPO4 as u32 + 1;
 
-const O2: u32 = 7;
+pub(crate) const O2: u32 = place::O2 as u32 + 1;
 
-const HCO3: u32 = 8;
+const HCO3: u32 = place::HCO3 as u32 + 1;
 
-const XH: u32 = 10;
+const XH: u32 = place::XH as u32 + 1;
 
-const XN1: u32 = 11;
+const XN1: u32 = place::XN1 as u32 + 1;
 
-const XN2: u32 = 12;
+const XN2: u32 = place::XN2 as u32 + 1;
 
-const XALG: u32 = 13;
+const XALG: u32 = place::XALG as u32 + 1;
 
-const XS: u32 = 14;
+const XS: u32 = place::XS as u32 + 1;
 
 // Grains in a gram of O2, and of N.
 const OXYGEN: i64 = Set::GRAINS_PER_MICROGRAM_O * 1000000;

@@ -4,6 +4,7 @@ use crate::book::booked;
 use crate::book::empty;
 use crate::book::with_flow;
 use crate::book::with_number;
+use crate::calls::O2;
 use crate::set::published_set;
 use crate::write::write_number;
 use crate::write::write_totals;
@@ -14,13 +15,11 @@ use river::River;
 use river::Totals;
 use step::step_river;
 use stoichiometry::Set;
+use stoichiometry::refusal;
 use totals::totals_of;
 use transport::air_river;
 use transport::flow_river;
 use transport::load_river;
-
-// The number of O2 in the order of substances.
-const O2: u32 = 7;
 
 pub(crate) struct Walk {
     set: Set,
@@ -47,7 +46,7 @@ impl Walk {
         io::write_all(STDOUT_FILENO, b"load ");
         write_number(answer.number);
         let river = answer.river;
-        if answer.number != 0 {
+        if answer.number != refusal::NONE {
             return Walk { set, river, book };
         }
         let book = with_number(book, set, cell, substance, number);
@@ -62,7 +61,7 @@ impl Walk {
         io::write_all(STDOUT_FILENO, b"flow ");
         write_number(answer.number);
         let river = answer.river;
-        if answer.number != 0 {
+        if answer.number != refusal::NONE {
             return Walk { set, river, book };
         }
         let left = answer.left;
@@ -78,7 +77,7 @@ impl Walk {
         io::write_all(STDOUT_FILENO, b"air ");
         write_number(answer.number);
         let river = answer.river;
-        if answer.number != 0 {
+        if answer.number != refusal::NONE {
             return Walk { set, river, book };
         }
         let book = with_number(book, set, cell, O2, answer.amount);

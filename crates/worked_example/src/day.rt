@@ -1,4 +1,8 @@
 // The river, and what is done to it.
+use crate::constants::half_saturations;
+use crate::constants::rates;
+use crate::levels::write_letters;
+use crate::levels::write_levels;
 use kinetics::Conditions;
 use kinetics::Temperatures;
 use libc::STDOUT_FILENO;
@@ -6,42 +10,46 @@ use probe::Amounts;
 use probe::Frame;
 use probe::Oxygen;
 use probe::OxygenAmount;
+use record::Record;
 use river::River;
-use stoichiometry::HalfSaturations;
-use stoichiometry::RateConstants;
 use stoichiometry::Set;
+use stoichiometry::place;
 
 const CELLS: u32 = 2;
 
-const BYTES: usize = 2 * record::CELL_BYTES;
+const BYTES: usize = CELLS as usize * Record::CELL_BYTES;
 
-// Substances, counted from 1.
-const SS: u32 = 1;
+// Substances by number, one more than their place.
+const SS: u32 = place::SS as u32 + 1;
 
-const NH4: u32 = 3;
+const NH4: u32 = place::NH4 as u32 + 1;
 
-const NO2: u32 = 4;
+const NO2: u32 = place::NO2 as u32 + 1;
 
-const NO3: u32 = 5;
+const NO3: u32 = place::NO3 as u32 + 1;
 
-const HPO4: u32 = 6;
+const HPO4: u32 = place::HPO4 as u32 + 1;
 
-const O2: u32 = 7;
+const O2: u32 = place::O2 as u32 + 1;
 
-const HCO3: u32 = 8;
+const HCO3: u32 = place::HCO3 as u32 + 1;
 
-const XH: u32 = 10;
+const XH: u32 = place::XH as u32 + 1;
 
-const XN1: u32 = 11;
+const XN1: u32 = place::XN1 as u32 + 1;
 
-const XN2: u32 = 12;
+const XN2: u32 = place::XN2 as u32 + 1;
 
-const XALG: u32 = 13;
+const XALG: u32 = place::XALG as u32 + 1;
 
-const XS: u32 = 14;
+const XS: u32 = place::XS as u32 + 1;
 
-// O2 in water that is in balance with the air, µg/m³: 9.1 g.
-const SATURATION: u32 = 9100000;
+// O2 in water that is in balance with the air at 20 °C, µg (document 000, appendix 2: 14.65 − 0.41 T + 0.00799 T²
+// − 0.0000778 T³ g/m³).
+const SATURATION: u32 = 9023600;
+
+// Thousandths per day, for 0.5 m/s and a depth of 0.67 m (document 000, appendix 2, a comment: 3.9 √U / H^1.5 per day).
+const AIR_CONSTANT: u32 = 5000;
 
 // A gram of an organic, µg; and one mole of bicarbonate, grains.
 const GRAM: i64 = 1000000;
@@ -81,7 +89,8 @@ impl Day {
     pub(crate) fn start() -> Day {
         let fresh = River::fresh(CELLS);
         let river = fresh.river;
-        let published = Set::published(RateConstants::all(2000), HalfSaturations::all(1000000));
+        let published = Set::published(rates(), half_saturations());
+        write_call(b"set ", published.number);
         let set = published.set;
         Day { set, river }
     }
@@ -117,7 +126,8 @@ impl Day {
             .load(XALG, 2 * GRAM)
     }
 
-    // Ten minutes by day, at the temperature for which the rate constants hold: all factors 10^6 but light, a half.
+    // Ten minutes at 20 °C, for which the rate constants hold: all factors are 10^6 but light's. That is a half, I /
+    // (I + KI) of document 000, appendix 2, where the light I is 500 W/m², as KI is in Table 8.
     fn step(self) -> Day {
         let set = self.set;
         let before = self.river;
@@ -152,7 +162,7 @@ impl Day {
     fn air(self, cell: u32) -> Day {
         let set = self.set;
         let before = self.river;
-        let answer = transport::air_river(before, cell, 5000, 600, SATURATION);
+        let answer = transport::air_river(before, cell, AIR_CONSTANT, 600, SATURATION);
         write_call(b"air ", answer.number);
         let river = answer.river;
         Day { set, river }
@@ -171,17 +181,16 @@ impl Day {
             .ten_minutes()
     }
 
-    fn write_letter(self, cell: u32) {
-        let river = self.river;
-        let answer = river::letter_of(river, cell);
-        io::write_all(STDOUT_FILENO, b"letter ");
-        io::write_all(STDOUT_FILENO, &[answer.letter, b'\n']);
+    fn letter(self, cell: u32) -> u8 {
+        let answer = river::letter_of(self.river, cell);
+        answer.letter
     }
 
+    // The levels and the letter of each cell, and the record.
     pub(crate) fn write(self) {
-        self.write_letter(1);
-        self.write_letter(2);
         let river = self.river;
+        write_levels(&river.amounts);
+        write_letters(self.letter(1), self.letter(2));
         let mut output = [0; BYTES];
         let mut work = [0; BYTES];
         write_call(

@@ -58,101 +58,42 @@ fn checksum(kind: u8, calls: u64) -> u64 {
 
 fn turns(calls: u64) -> u64 {
     let rivers = rivers();
-    let mut sum = 0;
-    for turn in 0..calls {
-        let river = black_box(&rivers[in_turn(turn)]);
-        sum = with(sum, river.cells.into());
-    }
-    sum
+    (0..calls).fold(0, |sum, turn| with(sum, black_box(&rivers[in_turn(turn)]).cells.into()))
 }
 
 fn steps(calls: u64) -> u64 {
     let (sets, rivers) = (sets(), rivers());
-    let mut sum = 0;
-    for turn in 0..calls {
+    (0..calls).fold(0, |sum, turn| {
         let k = in_turn(turn);
-        let mut river = black_box(&rivers[k]).clone();
-        let seconds = (50 + turn % 16) as u32;
-        let warmth = (1_000_000 + turn % 1_000) as u32;
-        let light = (500_000 + turn % 1_000) as u32;
-        let temperature = Temperature::from([warmth; 5]);
-        let number = step(black_box(&sets[k]), &mut river, seconds, light, &temperature);
-        sum = with_river(with(sum, number.into()), black_box(&river), turn);
-    }
-    sum
+        step_turn(&sets[k], &rivers[k], sum, turn)
+    })
 }
 
 fn flows(calls: u64) -> u64 {
     let rivers = rivers();
-    let mut sum = 0;
-    for turn in 0..calls {
-        let mut river = black_box(&rivers[in_turn(turn)]).clone();
-        let (number, left) = river.flow((turn % 10_001) as u32);
-        sum = with_river(with(sum, number.into()), black_box(&river), turn);
-        sum = with_amounts(sum, black_box(&left), turn);
-    }
-    sum
+    (0..calls).fold(0, |sum, turn| flow_turn(&rivers[in_turn(turn)], sum, turn))
 }
 
 fn airs(calls: u64) -> u64 {
     let rivers = rivers();
-    let mut sum = 0;
-    for turn in 0..calls {
-        let mut river = black_box(&rivers[in_turn(turn)]).clone();
-        let (number, added) = river.air(
-            (1 + turn / 8 % 8) as u32,
-            (turn % 20_001) as u32,
-            (1 + turn % 3_600) as u32,
-            (8_000_000 + turn % 4_000_000) as u32,
-        );
-        sum = with(with(sum, number.into()), added as u64);
-        sum = with_river(sum, black_box(&river), turn);
-    }
-    sum
+    (0..calls).fold(0, |sum, turn| air_turn(&rivers[in_turn(turn)], sum, turn))
 }
 
 fn loads(calls: u64) -> u64 {
     let rivers = rivers();
-    let mut sum = 0;
-    for turn in 0..calls {
-        let mut river = black_box(&rivers[in_turn(turn)]).clone();
-        let size = (1 + turn % 1_000) as i64;
-        let number = river.load(
-            (1 + turn / 8 % 8) as u32,
-            (1 + turn % 18) as u32,
-            if turn % 2 == 0 { size } else { -size },
-        );
-        sum = with_river(with(sum, number.into()), black_box(&river), turn);
-    }
-    sum
+    (0..calls).fold(0, |sum, turn| load_turn(&rivers[in_turn(turn)], sum, turn))
 }
 
 fn rows_of_sets(calls: u64) -> u64 {
     let sets = sets();
-    let mut sum = 0;
-    for turn in 0..calls {
-        let (number, entries) = rows(black_box(&sets[in_turn(turn)]));
-        let entries = black_box(&entries);
-        let k = (turn % 153) as usize;
-        sum = with(sum, number.into());
-        sum = with(sum, entries[k] as u64);
-        sum = with(sum, entries[k + 153] as u64);
-    }
-    sum
+    (0..calls).fold(0, |sum, turn| rows_turn(&sets[in_turn(turn)], sum, turn))
 }
 
 fn writes(calls: u64) -> u64 {
     let rivers = rivers();
     let (mut output, mut work) = ([0; BYTES], [0; BYTES]);
-    let mut sum = 0;
-    for turn in 0..calls {
-        let river = black_box(&rivers[in_turn(turn)]);
-        let number = record::write(river, &mut output, &mut work);
-        sum = with(sum, number.into());
-        sum = with_text(sum, black_box(&output), turn);
-        sum = with_text(sum, black_box(&work), turn);
-    }
-    sum
+    (0..calls)
+        .fold(0, |sum, turn| write_turn(&rivers[in_turn(turn)], &mut output, &mut work, sum, turn))
 }
 
 fn reads(calls: u64) -> u64 {
@@ -161,23 +102,90 @@ fn reads(calls: u64) -> u64 {
         record::write(&river, &mut output, &mut work);
         output
     });
-    let mut sum = 0;
-    for turn in 0..calls {
-        let (number, river) = record::read(black_box(&texts[in_turn(turn)]));
-        sum = with_river(with(sum, number.into()), black_box(&river), turn);
-    }
-    sum
+    (0..calls).fold(0, |sum, turn| read_turn(&texts[in_turn(turn)], sum, turn))
 }
 
 fn frames(calls: u64) -> u64 {
     let readings = readings();
-    let mut sum = 0;
-    for turn in 0..calls {
-        let frame = black_box(frame(&readings, turn));
-        let (number, amounts) = frame.amounts((8_000_000 + turn % 4_000_000) as u32);
-        sum = with_frame(with(sum, number.into()), &amounts);
-    }
-    sum
+    (0..calls).fold(0, |sum, turn| frame_turn(&readings, sum, turn))
+}
+
+// One turn of each kind: one call, and the checksum with its answer. Each call stands
+// in a function of its own, as in crate `speed`. An answer stays where the call put
+// it: the pattern `(number, river)` would copy the river out of it, and the call makes
+// no such copy.
+
+fn step_turn(set: &Set, river: &River, sum: u64, turn: u64) -> u64 {
+    let mut river = black_box(river).clone();
+    let seconds = (50 + turn % 16) as u32;
+    let warmth = (1_000_000 + turn % 1_000) as u32;
+    let light = (500_000 + turn % 1_000) as u32;
+    let temperature = Temperature::from([warmth; 5]);
+    let number = step(black_box(set), &mut river, seconds, light, &temperature);
+    with_river(with(sum, number.into()), black_box(&river), turn)
+}
+
+fn flow_turn(river: &River, sum: u64, turn: u64) -> u64 {
+    let mut river = black_box(river).clone();
+    let answer = river.flow((turn % 10_001) as u32);
+    let (number, left) = black_box(&answer);
+    let sum = with_river(with(sum, (*number).into()), black_box(&river), turn);
+    with_amounts(sum, left, turn)
+}
+
+fn air_turn(river: &River, sum: u64, turn: u64) -> u64 {
+    let mut river = black_box(river).clone();
+    let (number, added) = river.air(
+        (1 + turn / 8 % 8) as u32,
+        (turn % 20_001) as u32,
+        (1 + turn % 3_600) as u32,
+        (8_000_000 + turn % 4_000_000) as u32,
+    );
+    let sum = with(with(sum, number.into()), added as u64);
+    with_river(sum, black_box(&river), turn)
+}
+
+fn load_turn(river: &River, sum: u64, turn: u64) -> u64 {
+    let mut river = black_box(river).clone();
+    let size = (1 + turn % 1_000) as i64;
+    let number = river.load(
+        (1 + turn / 8 % 8) as u32,
+        (1 + turn % 18) as u32,
+        if turn % 2 == 0 { size } else { -size },
+    );
+    with_river(with(sum, number.into()), black_box(&river), turn)
+}
+
+fn rows_turn(set: &Set, sum: u64, turn: u64) -> u64 {
+    let answer = rows(black_box(set));
+    let (number, entries) = black_box(&answer);
+    let k = (turn % 153) as usize;
+    let sum = with(sum, (*number).into());
+    with(with(sum, entries[k] as u64), entries[k + 153] as u64)
+}
+
+fn write_turn(
+    river: &River,
+    output: &mut [u8; BYTES],
+    work: &mut [u8; BYTES],
+    sum: u64,
+    turn: u64,
+) -> u64 {
+    let number = record::write(black_box(river), output, work);
+    let sum = with(sum, number.into());
+    with_text(with_text(sum, black_box(output), turn), black_box(work), turn)
+}
+
+fn read_turn(text: &[u8; BYTES], sum: u64, turn: u64) -> u64 {
+    let answer = record::read(black_box(text));
+    let (number, river) = black_box(&answer);
+    with_river(with(sum, (*number).into()), river, turn)
+}
+
+fn frame_turn(readings: &[f32; 16], sum: u64, turn: u64) -> u64 {
+    let frame = black_box(frame(readings, turn));
+    let (number, amounts) = frame.amounts((8_000_000 + turn % 4_000_000) as u32);
+    with_frame(with(sum, number.into()), &amounts)
 }
 
 /// The place of what a turn takes.

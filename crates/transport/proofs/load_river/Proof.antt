@@ -13,7 +13,7 @@ use mir.Facts.{toZ-ofZ}
 use Rattle.numeric.proofs.Bounds.{fits-abs}
 use Rattle.numeric.proofs.Machine.{kept}
 use Rattle.numeric.proofs.CheckLaws.{and-left, and-right}
-use Rattle.stoichiometry.specs.Substances.{substances}
+use Rattle.stoichiometry.specs.Substances.{substances, mostNet}
 use Rattle.river.specs.Rivers.{mostCells, amountFits, amountAt, riverWrong, cellExists, substanceExists}
 use Rattle.river.proofs.Bounds.{fits-bound}
 use Rattle.river.proofs.Rivers.{wrong-tested, river-cells, amount-fits-at, cell-bound, substance-bound}
@@ -60,7 +60,7 @@ substance-known c =
 abbrev amount : tie.Else2 → ℤ
 amount c = amountAt (start c .args .river .amounts) (start c .args .cell - 1) (start c .args .substance - 1)
 
-amount-small : (c : tie.Else2) → natAbs (amount c) ≤ 1000000000000000000
+amount-small : (c : tie.Else2) → natAbs (amount c) ≤ mostNet
 amount-small c =
     let a = start c .args in
     let cell = cell-known c in

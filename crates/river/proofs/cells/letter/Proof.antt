@@ -4,7 +4,8 @@ use borrow.Author.Needs.{needs}
 use borrow.Author.Tests.{lt-ltb, le-ltb}
 use mir.Facts.{toZ-ofZ}
 use Rattle.stoichiometry.specs.Substances.{o2, nh4}
-use Rattle.river.specs.Rivers.{levelOf}
+use Rattle.stoichiometry.specs.Levels.{levelOf}
+use Rattle.river.specs.Cells.{letterBy}
 use Rattle.river.proofs.cells.letter.Statement.{statement}
 use Rattle.river.proofs.cells.letter.Tie as tie
 
@@ -30,10 +31,12 @@ ammonium-level c = rw (toZ-ofZ (c .before .before .before .fits .ammonium)) at (
 
 -- L.
 returns : tie.Need-returns
+unfolding letterBy
 returns c = rw (← oxygen-level (c .before), lt-ltb _ _ (c .if1 .taken))
 
 -- N.
 returns-2 : tie.Need-returns-2
+unfolding letterBy
 returns-2 c =
     let at-else = c .before .before in
     rw (
@@ -45,6 +48,7 @@ returns-2 c =
 
 -- A hyphen.
 returns-3 : tie.Need-returns-3
+unfolding letterBy
 returns-3 c =
     let at-else = c .before .before in
     rw (

@@ -9,11 +9,12 @@ use lib.Dec.{leb}
 use lib.ListN.{getD}
 use Rattle.numeric.specs.Check.{every}
 use Rattle.numeric.proofs.CheckLaws.{every-none, every-next}
+use Rattle.river.specs.Rivers.{mostCarry}
 use Rattle.river.proofs.check.carries_below_batch.Statement.{statement}
 use Rattle.river.proofs.check.carries_below_batch.Tie as tie
 
 abbrev Inv-loop : tie.InvT-loop
-Inv-loop end carries right₀ k₀ right k = (k ≤ end) × (right ≡ every k (λ (j : ℕ). leb (getD carries j 0) 999999))
+Inv-loop end carries right₀ k₀ right k = (k ≤ end) × (right ≡ every k (λ (j : ℕ). leb (getD carries j 0) mostCarry))
 
 abbrev μ-loop : tie.MeasureT-loop
 μ-loop end carries right₀ k₀ right k = end - k
@@ -39,7 +40,7 @@ loop-less c = omega arith
 loop-again : tie.Need-loop-again Inv-loop μ-loop
 loop-again c =
     let at-loop = c .before .before .before in
-    let last = leb (getD (at-loop .before .args .carries .now) (at-loop .loop .k) 0) 999999 in
+    let last = leb (getD (at-loop .before .args .carries .now) (at-loop .loop .k) 0) mostCarry in
     (omega arith, c .both .ensures ∙ ap (λ b. b && last) (at-loop .loop .inv .1) ∙ sym (every-next (at-loop .loop .k) _))
 
 returns : tie.Need-returns Inv-loop μ-loop

@@ -16,20 +16,8 @@ readings-requires c κs = search needs
 loop-holds : tie.Need-loop-holds Inv-loop μ-loop
 loop-holds c = search needs
 
-frame-of-requires : tie.Need-frame-of-requires Inv-loop μ-loop
-frame-of-requires c κs = search needs
-
-add-amounts-of : tie.Need-add-amounts-of Inv-loop μ-loop
-add-amounts-of c = search needs
-
-cast-amounts-of : tie.Need-cast-amounts-of Inv-loop μ-loop
-cast-amounts-of c = search needs
-
-amounts-of-requires : tie.Need-amounts-of-requires Inv-loop μ-loop
-amounts-of-requires c κs = search needs
-
-with-frame-requires : tie.Need-with-frame-requires Inv-loop μ-loop
-with-frame-requires c κs = search needs
+frame-turn-requires : tie.Need-frame-turn-requires Inv-loop μ-loop
+frame-turn-requires c κs = search needs
 
 add-turn : tie.Need-add-turn Inv-loop μ-loop
 add-turn c = search needs
@@ -51,11 +39,7 @@ frames-spec =
     μ-loop
     readings-requires
     loop-holds
-    frame-of-requires
-    add-amounts-of
-    cast-amounts-of
-    amounts-of-requires
-    with-frame-requires
+    frame-turn-requires
     add-turn
     loop-less
     loop-again

@@ -25,29 +25,17 @@ mul-start c = search needs
 add-end : tie.Need-add-end Inv-loop μ-loop
 add-end c = search needs
 
-sub-read-record : tie.Need-sub-read-record Inv-loop μ-loop
-sub-read-record c = search needs
+sub-read-turn : tie.Need-sub-read-turn Inv-loop μ-loop
+sub-read-turn c = search needs
 
-part-read-record-start : tie.Need-part-read-record-start Inv-loop μ-loop
-part-read-record-start c = search needs
+part-read-turn-start : tie.Need-part-read-turn-start Inv-loop μ-loop
+part-read-turn-start c = search needs
 
-part-read-record-end : tie.Need-part-read-record-end Inv-loop μ-loop
-part-read-record-end c = search needs
+part-read-turn-end : tie.Need-part-read-turn-end Inv-loop μ-loop
+part-read-turn-end c = search needs
 
-read-record-requires : tie.Need-read-record-requires Inv-loop μ-loop
-read-record-requires c κs = search needs
-
-cast-with : tie.Need-cast-with Inv-loop μ-loop
-cast-with c = search needs
-
-with-requires : tie.Need-with-requires Inv-loop μ-loop
-with-requires c κs = search needs
-
-with-amounts-requires : tie.Need-with-amounts-requires Inv-loop μ-loop
-with-amounts-requires c κs = search needs
-
-with-carry-requires : tie.Need-with-carry-requires Inv-loop μ-loop
-with-carry-requires c κs = search needs
+read-turn-requires : tie.Need-read-turn-requires Inv-loop μ-loop
+read-turn-requires c κs = search needs
 
 add-turn : tie.Need-add-turn Inv-loop μ-loop
 add-turn c = search needs
@@ -72,14 +60,10 @@ reads-spec =
     loop-holds
     mul-start
     add-end
-    sub-read-record
-    part-read-record-start
-    part-read-record-end
-    read-record-requires
-    cast-with
-    with-requires
-    with-amounts-requires
-    with-carry-requires
+    sub-read-turn
+    part-read-turn-start
+    part-read-turn-end
+    read-turn-requires
     add-turn
     loop-less
     loop-again

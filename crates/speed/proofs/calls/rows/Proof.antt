@@ -16,41 +16,14 @@ sets-requires c κs = search needs
 loop-holds : tie.Need-loop-holds Inv-loop μ-loop
 loop-holds c = search needs
 
-mul-rows-of : tie.Need-mul-rows-of Inv-loop μ-loop
-mul-rows-of c = search needs
+mul-rows-turn : tie.Need-mul-rows-turn Inv-loop μ-loop
+mul-rows-turn c = search needs
 
-array-copy-out-rows-of : tie.Need-array-copy-out-rows-of Inv-loop μ-loop
-array-copy-out-rows-of c = search needs
+array-copy-out-rows-turn : tie.Need-array-copy-out-rows-turn Inv-loop μ-loop
+array-copy-out-rows-turn c = search needs
 
-rows-of-requires : tie.Need-rows-of-requires Inv-loop μ-loop
-rows-of-requires c κs = search needs
-
-cast-with : tie.Need-cast-with Inv-loop μ-loop
-cast-with c = search needs
-
-with-requires : tie.Need-with-requires Inv-loop μ-loop
-with-requires c κs = search needs
-
-mul-with-signed : tie.Need-mul-with-signed Inv-loop μ-loop
-mul-with-signed c = search needs
-
-element-copy-out-with-signed : tie.Need-element-copy-out-with-signed Inv-loop μ-loop
-element-copy-out-with-signed c = search needs
-
-with-signed-requires : tie.Need-with-signed-requires Inv-loop μ-loop
-with-signed-requires c κs = search needs
-
-add-with-signed : tie.Need-add-with-signed Inv-loop μ-loop
-add-with-signed c = search needs
-
-mul-with-signed-2 : tie.Need-mul-with-signed-2 Inv-loop μ-loop
-mul-with-signed-2 c = search needs
-
-element-copy-out-with-signed-2 : tie.Need-element-copy-out-with-signed-2 Inv-loop μ-loop
-element-copy-out-with-signed-2 c = search needs
-
-with-signed-requires-2 : tie.Need-with-signed-requires-2 Inv-loop μ-loop
-with-signed-requires-2 c κs = search needs
+rows-turn-requires : tie.Need-rows-turn-requires Inv-loop μ-loop
+rows-turn-requires c κs = search needs
 
 add-turn : tie.Need-add-turn Inv-loop μ-loop
 add-turn c = search needs
@@ -72,18 +45,9 @@ rows-spec =
     μ-loop
     sets-requires
     loop-holds
-    mul-rows-of
-    array-copy-out-rows-of
-    rows-of-requires
-    cast-with
-    with-requires
-    mul-with-signed
-    element-copy-out-with-signed
-    with-signed-requires
-    add-with-signed
-    mul-with-signed-2
-    element-copy-out-with-signed-2
-    with-signed-requires-2
+    mul-rows-turn
+    array-copy-out-rows-turn
+    rows-turn-requires
     add-turn
     loop-less
     loop-again

@@ -10,7 +10,7 @@ use mir.Facts.{toZ-ofZ}
 use Rattle.numeric.proofs.Bounds.{fits-abs}
 use Rattle.numeric.proofs.Machine.{kept-is}
 use Rattle.stoichiometry.specs.Substances.{substances}
-use Rattle.step.proofs.RowZeros.{added-none}
+use Rattle.step.proofs.Unchanged.{added-none}
 use Rattle.step.proofs.StepArithmetic.{term-bound}
 use borrow.Author.Needs.{needs}
 use Rattle.step.proofs.apply.added_by.Statement.{statement}

@@ -10,11 +10,12 @@ use lib.Signed.{leZ}
 use Rattle.numeric.specs.Check.{every}
 use Rattle.numeric.proofs.CheckLaws.{every-none, every-more, every-fails}
 use Rattle.stoichiometry.specs.Rows.{processes}
+use Rattle.step.specs.Steps.{mostBatches}
 use Rattle.step.proofs.split.batches_fit.Statement.{statement}
 use Rattle.step.proofs.split.batches_fit.Tie as tie
 
 abbrev Inv-loop : tie.InvT-loop
-Inv-loop n whole c₀ c = (c ≤ n) × (every c (λ d. every processes (λ p. leZ (getD whole (d * processes + p) (pos 0)) (pos 100000))) ≡ true)
+Inv-loop n whole c₀ c = (c ≤ n) × (every c (λ d. every processes (λ p. leZ (getD whole (d * processes + p) (pos 0)) (pos mostBatches))) ≡ true)
 
 abbrev μ-loop : tie.MeasureT-loop
 μ-loop n whole c₀ c = n - c

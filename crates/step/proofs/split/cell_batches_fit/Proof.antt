@@ -11,11 +11,12 @@ use Rattle.numeric.specs.Check.{every}
 use Rattle.numeric.proofs.Machine.{kept-is}
 use Rattle.numeric.proofs.CheckLaws.{every-none, every-more, every-fails}
 use Rattle.stoichiometry.specs.Rows.{processes}
+use Rattle.step.specs.Steps.{mostBatches}
 use Rattle.step.proofs.split.cell_batches_fit.Statement.{statement}
 use Rattle.step.proofs.split.cell_batches_fit.Tie as tie
 
 abbrev Inv-loop : tie.InvT-loop
-Inv-loop whole at p₀ p = (p ≤ processes) × (every p (λ q. leZ (getD whole (at + q) (pos 0)) (pos 100000)) ≡ true)
+Inv-loop whole at p₀ p = (p ≤ processes) × (every p (λ q. leZ (getD whole (at + q) (pos 0)) (pos mostBatches)) ≡ true)
 
 abbrev μ-loop : tie.MeasureT-loop
 μ-loop whole at p₀ p = processes - p

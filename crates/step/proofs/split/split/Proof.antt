@@ -1,15 +1,17 @@
 -- `step::split::split` meets its contract. The loop's invariant: each list is that at the start after the first p
 -- were stored. The measure is what is left of the cell. No assumptions.
 use Prim.Native.Nat.{_+_, _/_, _%_, _-_, _≤_}
-use mathlib.Core.Path.{_≡_, refl}
+use mathlib.Core.Path.{_≡_, ap, _∙_}
 use native.Mathlib.Omega.{arith}
 use lib.IntN.{pos}
+use lib.ListN.{getD}
 use mir.Syntax.{w64}
 use mir.Facts.{toZ-pos}
 use Rattle.numeric.specs.Table.{run}
 use Rattle.numeric.proofs.Filling.{run-none, run-more}
 use Rattle.stoichiometry.specs.Rows.{processes}
-use Rattle.step.specs.Stepping.{carriedFrom}
+use Rattle.river.specs.Rivers.{mostCarry}
+use Rattle.step.specs.Stepping.{mostExtent, carriedFrom}
 use Rattle.step.proofs.split.split.Statement.{statement}
 use Rattle.step.proofs.split.split.Tie as tie
 
@@ -21,76 +23,39 @@ Inv-loop extents carries at whole₀ rest₀ p₀ whole rest p =
 abbrev μ-loop : tie.MeasureT-loop
 μ-loop extents carries at whole₀ rest₀ p₀ whole rest p = processes - p
 
--- An extent and a carry are far below 2^63.
-small : (c : tie.In-loop Inv-loop μ-loop)
-    → carriedFrom (c .before .before .args .extents .now) (c .before .before .args .carries .now) (c .before .before .args .at) (c .before .loop .p) ≤ 4000000000999999
-small c =
-    let at-loop = c .before in
-    let start = at-loop .before in
-    let p = at-loop .loop .p in
-    omega (arith, start .pre .1 .most p (omega arith), start .pre .2 .most (start .args .at + p) (omega arith))
+-- The old carry and the extent of the process fit.
+fit : (c : tie.In-loop Inv-loop μ-loop)
+    → let start = c .before .before .args in
+    let p = c .before .loop .p in
+    (getD (start .carries .now) (start .at + p) 0 ≤ mostCarry) × (getD (start .extents .now) p 0 ≤ mostExtent)
+fit c =
+    let start = c .before .before in
+    let p = c .before .loop .p in
+    (start .pre .2 .most (start .args .at + p) (omega arith), start .pre .1 .most p (omega arith))
 
 loop-holds : tie.Need-loop-holds Inv-loop μ-loop
 loop-holds c = (omega arith, run-none _ _ _, run-none _ _ _)
 
-add-carried : tie.Need-add-carried Inv-loop μ-loop
-add-carried c = omega arith
+whole-of-requires : tie.Need-whole-of-requires Inv-loop μ-loop
+whole-of-requires c κs = fit (c .before .before)
 
-mul-carried : tie.Need-mul-carried Inv-loop μ-loop
-mul-carried c = omega arith
-
-element-copy-out-carried : tie.Need-element-copy-out-carried Inv-loop μ-loop
-element-copy-out-carried c = omega arith
-
-cast-carried : tie.Need-cast-carried Inv-loop μ-loop
-cast-carried c = omega (arith, small (c .before))
-
-mul-carried-2 : tie.Need-mul-carried-2 Inv-loop μ-loop
-mul-carried-2 c = omega arith
-
-element-copy-out-carried-2 : tie.Need-element-copy-out-carried-2 Inv-loop μ-loop
-element-copy-out-carried-2 c = omega arith
-
-add-carried-2 : tie.Need-add-carried-2 Inv-loop μ-loop
-add-carried-2 c = omega (arith, small (c .before .before))
+-- The whole batches are far below 2^63.
+small : (c : tie.After-whole-of Inv-loop μ-loop) → c .whole-of .result ≤ mostExtent
+small c = rw (c .whole-of .ensures) (omega (arith, fit (c .before .before .before)))
 
 cast-whole : tie.Need-cast-whole Inv-loop μ-loop
-cast-whole c = omega (arith, small (c .before .before))
+cast-whole c = omega (arith, small c)
 
-add-t9 : tie.Need-add-t9 Inv-loop μ-loop
-add-t9 c = omega arith
-
-mul-t15 : tie.Need-mul-t15 Inv-loop μ-loop
-mul-t15 c = omega arith
-
-element-set-from-whole : tie.Need-element-set-from-whole Inv-loop μ-loop
-element-set-from-whole c = omega arith
-
-cast-rest : tie.Need-cast-rest Inv-loop μ-loop
-cast-rest c = omega (arith, small (c .before .before))
-
-add-rest : tie.Need-add-rest Inv-loop μ-loop
-add-rest c = omega arith
-
-mul-rest : tie.Need-mul-rest Inv-loop μ-loop
-mul-rest c = omega arith
-
-element-write-rest : tie.Need-element-write-rest Inv-loop μ-loop
-element-write-rest c = omega arith
-
-add-p : tie.Need-add-p Inv-loop μ-loop
-add-p c = omega arith
-
-loop-less : tie.Need-loop-less Inv-loop μ-loop
-loop-less c = omega arith
+rest-of-requires : tie.Need-rest-of-requires Inv-loop μ-loop
+rest-of-requires c κs = fit (c .before .before .before)
 
 loop-again : tie.Need-loop-again Inv-loop μ-loop
 loop-again c =
-    let entered = c .before .before in
-    let at-loop = entered .before in
+    let at-loop = c .before .before .before .before .before in
     let inv = at-loop .loop .inv in
     let p = at-loop .loop .p in
-    (omega arith, run-more _ _ p _ _ _ (inv .1) (toZ-pos w64 (omega (arith, small entered))), run-more _ _ p _ _ _ (inv .2) refl)
+    let whole = toZ-pos w64 (omega (arith, small (c .before))) ∙ ap pos (c .before .whole-of .ensures) in
+    (omega arith, run-more _ _ p _ _ _ (inv .1) whole, run-more _ _ p _ _ _ (inv .2) (c .rest-of .ensures))
 
 returns : tie.Need-returns Inv-loop μ-loop
 returns c =
@@ -105,22 +70,21 @@ split-spec =
     Inv-loop
     μ-loop
     loop-holds
-    add-carried
-    mul-carried
-    element-copy-out-carried
-    cast-carried
-    mul-carried-2
-    element-copy-out-carried-2
-    add-carried-2
+    (λ c. omega arith)
+    (λ c. omega arith)
+    (λ c. omega arith)
+    (λ c. omega arith)
+    (λ c. omega arith)
+    whole-of-requires
     cast-whole
-    add-t9
-    mul-t15
-    element-set-from-whole
-    cast-rest
-    add-rest
-    mul-rest
-    element-write-rest
-    add-p
-    loop-less
+    (λ c. omega arith)
+    (λ c. omega arith)
+    (λ c. omega arith)
+    rest-of-requires
+    (λ c. omega arith)
+    (λ c. omega arith)
+    (λ c. omega arith)
+    (λ c. omega arith)
+    (λ c. omega arith)
     loop-again
     returns)

@@ -14,8 +14,9 @@ use Rattle.numeric.proofs.Fitting.{Bounded, _&_, all, fit, abs-under}
 use Rattle.numeric.proofs.Machine.{asked, ran}
 use Rattle.numeric.proofs.Quotient.{abs-quot}
 use Rattle.stoichiometry.specs.Substances.{o2, grainsPerMicrogramO}
-use Rattle.river.specs.Rivers.{levelOf}
+use Rattle.stoichiometry.specs.Levels.{levelOf}
 use Rattle.transport.specs.Air.{gain}
+use Rattle.stoichiometry.specs.Limits.{mostSaturation}
 use Rattle.transport.proofs.AirLaws.{oxygen-level-bound, exchanged-bound, constant-bound, seconds-bound, saturation-bound}
 use Rattle.transport.proofs.air.gain_of.Statement.{statement}
 use Rattle.transport.proofs.air.gain_of.Tie as tie
@@ -26,11 +27,11 @@ level-is c =
 
 -- The saturation and the level.
 known : (c : tie.After-oxygen-level)
-    → Bounded (c .before .wide .result ∷ c .oxygen-level .result ∷ []) (20000000 ∷ 1024065540 ∷ [])
+    → Bounded (c .before .wide .result ∷ c .oxygen-level .result ∷ []) (mostSaturation ∷ 1024065540 ∷ [])
 known c =
     let start = c .before .before in
     let a = start .args in
-    let saturation : natAbs (c .before .wide .result) ≤ 20000000 =
+    let saturation : natAbs (c .before .wide .result) ≤ mostSaturation =
     rw (c .before .wide .ensures) (saturation-bound (a .constant) (a .seconds) (a .saturation) (start .pre .0)) in
     let level : natAbs (c .oxygen-level .result) ≤ 1024065540 =
     rw (level-is c) (oxygen-level-bound (a .amount) (start .pre .1)) in
@@ -39,7 +40,7 @@ known c =
 -- The part that is exchanged, the saturation and the level.
 all-known : (c : tie.After-exchanged-part)
     → Bounded (c .exchanged-part .result ∷ c .before .before .wide .result ∷ c .before .oxygen-level .result ∷ [])
-    (833333333 ∷ 20000000 ∷ 1024065540 ∷ [])
+    (833333333 ∷ mostSaturation ∷ 1024065540 ∷ [])
 all-known c =
     let start = c .before .before .before in
     let a = start .args in

@@ -10,7 +10,7 @@ use mir.Val.{SFits}
 use mir.Facts.{toZ-ofZ}
 use Rattle.numeric.proofs.Bounds.{fits-abs}
 use Rattle.stoichiometry.specs.Substances.{o2, grainsPerMicrogramO}
-use Rattle.river.specs.Rivers.{levelOf}
+use Rattle.stoichiometry.specs.Levels.{levelOf}
 use Rattle.transport.proofs.AirLaws.{oxygen-grains, oxygen-level-bound}
 use Rattle.transport.proofs.air.oxygen_level.Statement.{statement}
 use Rattle.transport.proofs.air.oxygen_level.Tie as tie

@@ -3,11 +3,11 @@ use mathlib.Core.List.{[], _∷_}
 use Rattle.numeric.proofs.Expression.{v, _⊖_}
 use Rattle.numeric.proofs.Fitting.{Bounded, _&_, all}
 use Rattle.numeric.proofs.Machine.{asked, ran}
-use Rattle.transport.specs.Stages.{largest}
+use Rattle.stoichiometry.specs.Substances.{mostNet}
 use Rattle.transport.proofs.flow.less.Statement.{statement}
 use Rattle.transport.proofs.flow.less.Tie as tie
 
-known : (c : tie.Start) → Bounded (c .args .amount ∷ c .args .left ∷ []) (largest ∷ largest ∷ [])
+known : (c : tie.Start) → Bounded (c .args .amount ∷ c .args .left ∷ []) (mostNet ∷ mostNet ∷ [])
 known c = c .pre .0 & c .pre .1 & all
 
 sub-result : tie.Need-sub-result

@@ -3,7 +3,8 @@ use mathlib.Core.List.{List}
 use mathlib.Core.Path.{sym, ap, _∙_, subst}
 use lib.IntN.{ℤ}
 use Prim.Native.Nat.{_*_}
-use Rattle.transport.specs.Stages.{largest, AmountsWithin, joinedOf}
+use Rattle.stoichiometry.specs.Substances.{mostNet}
+use Rattle.transport.specs.Stages.{AmountsWithin, joinedOf}
 use Rattle.transport.proofs.FlowLists.{stayed-small, joined-moved}
 use borrow.Author.Needs.{needs}
 use Rattle.transport.proofs.flow.move_amounts.Statement.{statement}
@@ -20,7 +21,7 @@ add-came-requires c κs =
     let handed = start .pre in (
       handed .0,
       handed .1,
-      subst (AmountsWithin (2 * largest)) (sym (at-left .take-left .ensures))
+      subst (AmountsWithin (2 * mostNet)) (sym (at-left .take-left .ensures))
           (stayed-small (args .cells) (args .amounts .now) (args .left .now) (handed .2) (handed .3) (handed .4)),
       handed .4,
     )

@@ -16,12 +16,12 @@ use Rattle.numeric.proofs.Bounds.{fits-abs, abs-neg}
 use Rattle.numeric.proofs.Comparison.{bits-lt, bits-nlt}
 use Rattle.numeric.proofs.Fitting.{Bounded, _&_, all}
 use Rattle.numeric.proofs.Machine.{asked, ran}
-use Rattle.transport.specs.Stages.{largest}
+use Rattle.stoichiometry.specs.Substances.{mostNet}
 use Rattle.transport.proofs.FlowLaws.{share, share-le, passing-below, passing-above}
 use Rattle.transport.proofs.flow.passed.Statement.{statement}
 use Rattle.transport.proofs.flow.passed.Tie as tie
 
-known : (c : tie.Start) → Bounded (c .args .amount ∷ []) (largest ∷ [])
+known : (c : tie.Start) → Bounded (c .args .amount ∷ []) (mostNet ∷ [])
 known c = c .pre .1 & all
 
 negated-nonNeg : (z : ℤ) → z <ℤ pos 0 → T (nonNeg (negℤ z))

@@ -4,11 +4,11 @@ use mathlib.Core.List.{[], _∷_}
 use Rattle.numeric.proofs.Expression.{v, _⊕_}
 use Rattle.numeric.proofs.Fitting.{Bounded, _&_, all}
 use Rattle.numeric.proofs.Machine.{asked, ran}
-use Rattle.transport.specs.Stages.{largest}
+use Rattle.stoichiometry.specs.Substances.{mostNet}
 use Rattle.transport.proofs.flow.with.Statement.{statement}
 use Rattle.transport.proofs.flow.with.Tie as tie
 
-known : (c : tie.Start) → Bounded (c .args .stayed ∷ c .args .came ∷ []) (2 * largest ∷ largest ∷ [])
+known : (c : tie.Start) → Bounded (c .args .stayed ∷ c .args .came ∷ []) (2 * mostNet ∷ mostNet ∷ [])
 known c = c .pre .0 & c .pre .1 & all
 
 add-result : tie.Need-add-result

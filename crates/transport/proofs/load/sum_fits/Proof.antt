@@ -12,13 +12,14 @@ use Rattle.numeric.proofs.Expression.{v, _⊕_}
 use Rattle.numeric.proofs.Fitting.{Bounded, _&_, all}
 use Rattle.numeric.proofs.Machine.{asked, ran}
 use Rattle.river.specs.Rivers.{amountFits}
+use Rattle.stoichiometry.specs.Substances.{mostNet}
 use Rattle.transport.proofs.LoadLaws.{load-too-low, load-too-high}
 use Rattle.transport.proofs.load.sum_fits.Statement.{statement}
 use Rattle.transport.proofs.load.sum_fits.Tie as tie
 
 known : (c : tie.Else2)
     → Bounded (c .before .before .args .amount ∷ c .before .before .args .number ∷ [])
-    (1000000000000000000 ∷ 2000000000000000000 ∷ [])
+    (mostNet ∷ 2000000000000000000 ∷ [])
 known c =
     let start = c .before .before in
     let number = start .args .number in
