@@ -1,30 +1,28 @@
--- Bounds of what the rates of a cell are made of (specs/Rates.antt): rate constants, half-saturations and batch sizes
--- of a set that check 2 passes, levels, products, q and extents. No assumptions.
-use Prim.Native.Nat.{ℕ, _*_, _≤_, _<_}
-use mathlib.Core.Bool.{Bool, true, false, _&&_, cond}
-use mathlib.Core.List.{List, [], _∷_}
-use mathlib.Core.Path.{_≡_}
+-- Bounds of rates (specs/Rates.antt): rate constants, half-saturations and batch sizes of a set that check 2 passes;
+-- then, of every process of the table, the product, q and the extent. No assumptions.
+use Prim.Native.Nat.{ℕ, _*_, _/_, _≤_, _<_}
+use mathlib.Core.Bool.{true, false, _&&_}
+use mathlib.Core.List.{List}
+use mathlib.Core.Path.{_≡_, refl}
 use native.Mathlib.Omega.{arith}
 use native.Mathlib.Nat.{mul-le-mul, div-le-of-le-mul}
 use borrow.Author.Tests.{leb-true, le-leb, not-false}
 use lib.Dec.{leb, lit<, lit≤}
 use lib.ListN.{length, getD}
-use lib.IntN.{ℤ, natAbs}
+use lib.IntN.{ℤ}
 use Rattle.numeric.specs.Check.{allOf}
 use Rattle.numeric.proofs.CheckLaws.{and-left, and-right, allOf-at}
-use Rattle.numeric.proofs.TableLaws.{AtMost, done, _also_, at-most-at}
+use Rattle.numeric.proofs.TableLaws.{done, _also_, at-most-at}
 use Rattle.stoichiometry.specs.declared.Set.{Set}
-use Rattle.stoichiometry.specs.Substances.{mostGrains, mostOrganic}
-use Rattle.stoichiometry.specs.Substances.{Organic, organic, nh4, no2, no3, hpo4, o2, xp, ss, xh, xn1, xn2, xalg, xs, place}
+use Rattle.stoichiometry.specs.Substances.{Substance}
+use Rattle.stoichiometry.specs.Levels.{mostLevel}
 use Rattle.stoichiometry.specs.Parameters.{inRange, yieldList, inertList, rateList, halfList, yieldsFit, constantsFit, figuresWrong}
 use Rattle.stoichiometry.specs.Rows.{processes, noProcess, processesOf, processAt}
-use Rattle.stoichiometry.specs.Levels.{levelOf}
 use Rattle.kinetics.specs.declared.Conditions.{Conditions}
-use Rattle.kinetics.specs.Factors.{monod, inhibition}
-use Rattle.kinetics.specs.Rates.{Levels, levelsOf, takesPhosphate, takesNitrogen, productsOf, constantsOf, drivenBy, quota, extent}
-use Rattle.kinetics.specs.Ranges.{ConditionsFit, mostLevel, LevelsFit}
-use Rattle.stoichiometry.specs.Limits.{mostSeconds}
-use Rattle.kinetics.proofs.FactorLaws.{monod-bound, inhibition-bound, last, _then_, only-then, only-two-then, product-bound}
+use Rattle.stoichiometry.specs.Limits.{mostSeconds, secondsPerDay}
+use Rattle.kinetics.specs.Rates.{ratesOf, noRate, rateAt, takesPhosphate, productAt, levelsOf, quotaAt, extentAt}
+use Rattle.kinetics.specs.Ranges.{ConditionsFit}
+use Rattle.kinetics.proofs.FactorLaws.{riseOfAll, product-bound}
 
 -- What a list of figures that are all in a range says of each.
 listed : (low high : ℕ) (l : List ℕ) → allOf (inRange low high) l ≡ true → (i : ℕ) → i < length l
@@ -66,14 +64,14 @@ module _ (set : Set) (fits : figuresWrong set ≡ false) where
       (and-left (yieldsFit (set .yields) (set .inert)) (constantsFit (set .rates) (set .half)) both-fit)) i h .0
 
   -- Every rate constant is at most 20,000 thousandths per day.
-  pub constant-bound : (p : ℕ) → getD (constantsOf set) p 0 ≤ 20000
+  pub constant-bound : (p : ℕ) → rateAt set p .k ≤ 20000
+  unfolding rateAt ratesOf
   constant-bound =
-      at-most-at {size = λ x. x}
-      (rate-bound 0 (lit< tt) also rate-bound 0 (lit< tt) also rate-bound 1 (lit< tt) also rate-bound 2 (lit< tt)
-      also rate-bound 2 (lit< tt) also rate-bound 3 (lit< tt) also rate-bound 4 (lit< tt) also rate-bound 5 (lit< tt)
-      also rate-bound 6 (lit< tt) also rate-bound 7 (lit< tt) also rate-bound 8 (lit< tt) also rate-bound 9 (lit< tt)
-      also rate-bound 10 (lit< tt) also rate-bound 11 (lit< tt) also rate-bound 12 (lit< tt) also rate-bound 13 (lit< tt)
-      also rate-bound 14 (lit< tt) also done) 0 (lit≤ tt)
+      let k : (i : ℕ) → i < 15 → getD (rateList (set .rates)) i 0 ≤ 20000 = rate-bound in
+      at-most-at {size = λ r. r .k}
+      (k 0 (lit< tt) also k 0 (lit< tt) also k 1 (lit< tt) also k 2 (lit< tt) also k 2 (lit< tt) also k 3 (lit< tt)
+      also k 4 (lit< tt) also k 5 (lit< tt) also k 6 (lit< tt) also k 7 (lit< tt) also k 8 (lit< tt) also k 9 (lit< tt)
+      also k 10 (lit< tt) also k 11 (lit< tt) also k 12 (lit< tt) also k 13 (lit< tt) also k 14 (lit< tt) also done) noRate (lit≤ tt)
 
   batches-fit : allOf (λ q. leb 1 (q .batch)) (processesOf set) ≡ true
   unfolding allOf processesOf
@@ -93,77 +91,36 @@ module _ (set : Set) (fits : figuresWrong set ≡ false) where
       leb-true 1 (getD (processesOf set) p noProcess .batch)
       (allOf-at (λ q. leb 1 (q .batch)) (processesOf set) p noProcess batches-fit (unfold processesOf in h))
 
--- Levels of amounts in their bounds: organics to 10^9 µg, the others to 10^16 grains.
-pub levels-bound : (amount : ℕ → ℤ) → ((x : Organic) → natAbs (amount (place (organic x))) ≤ mostOrganic)
-    → AtMost (λ s. natAbs (amount (place s))) mostGrains (nh4 ∷ no2 ∷ no3 ∷ hpo4 ∷ o2 ∷ xp ∷ [])
-    → LevelsFit (levelsOf amount)
-unfolding levelsOf levelOf
-levels-bound amount organics (n also m also k also p also o also x also done) =
-    record {
-      ss = omega (arith, organics ss);
-      nh4 = omega arith;
-      no2 = omega arith;
-      no3 = omega arith;
-      hpo4 = omega arith;
-      o2 = omega arith;
-      xh = omega (arith, organics xh);
-      xn1 = omega (arith, organics xn1);
-      xn2 = omega (arith, organics xn2);
-      xalg = omega (arith, organics xalg);
-      xs = omega (arith, organics xs);
-      xp = omega arith;
-    }
-
--- X of every process is then at most the most of a level.
-pub driven-bound : (l : Levels) → LevelsFit l → (p : ℕ) → getD (drivenBy l) p 0 ≤ mostLevel
-driven-bound l fits =
-    at-most-at {size = λ x. x}
-    (fits .xh also fits .xh also fits .xh also fits .xh also fits .xh also fits .xh also fits .xn1 also fits .xn1
-    also fits .xn2 also fits .xn2 also fits .xalg also fits .xalg also fits .xalg also fits .xalg also fits .xs
-    also fits .hpo4 also fits .xp also done) 0 (lit≤ tt)
-
-cond-bound : (b : Bool) {x m : ℕ} → x ≤ m → cond b x 0 ≤ m
-cond-bound true h = h
-cond-bound false h = omega arith
-
-products-fit : (set : Set) (given : Conditions) (l : Levels) → ConditionsFit given
-    → AtMost (λ x. x) 4000000 (productsOf set given l)
-unfolding productsOf
-products-fit set given l fits =
-    let p = takesPhosphate set in
-    let f : (level half : ℕ) → monod level half ≤ 1000000 = monod-bound in
-    let g : (level half : ℕ) → inhibition level half ≤ 1000000 = inhibition-bound in
-    product-bound (f _ _ then f _ _ then only-two-then (takesNitrogen set) (p 0) (f _ _) (f _ _) (last (fits .xh)))
-    also cond-bound (takesNitrogen set)
-    (product-bound (f _ _ then f _ _ then g _ _ then f _ _ then only-then (p 1) (f _ _) (last (fits .xh))))
-    also product-bound (f _ _ then last (fits .xh))
-    also product-bound (f _ _ then g _ _ then f _ _ then only-then (p 3) (f _ _) (last (fits .xh)))
-    also product-bound (f _ _ then g _ _ then f _ _ then only-then (p 4) (f _ _) (last (fits .xh)))
-    also product-bound (g _ _ then f _ _ then last (fits .xh))
-    also product-bound (f _ _ then f _ _ then only-then (p 6) (f _ _) (last (fits .xn1)))
-    also product-bound (f _ _ then last (fits .xn1))
-    also product-bound (f _ _ then f _ _ then only-then (p 8) (f _ _) (last (fits .xn2)))
-    also product-bound (f _ _ then last (fits .xn2))
-    also product-bound (f _ _ then f _ _ then only-then (p 10) (f _ _) (fits .light then last (fits .algae)))
-    also product-bound (f _ _ then g _ _ then only-then (p 11) (f _ _) (fits .light then last (fits .algae)))
-    also product-bound (f _ _ then last (fits .algae))
-    also product-bound (last (fits .algae))
-    also product-bound (last (fits .hydrolysis))
-    also lit≤ tt
-    also lit≤ tt
-    also done
+-- The factors of every process make its product at most 4 times as large.
+rises : (set : Set) → allOf (λ r. leb (riseOfAll (r .factors)) 4) (ratesOf set) ≡ true
+unfolding allOf ratesOf
+rises set = refl
 
 -- The product of every process is at most 4,000,000 millionths.
-pub products-bound : (set : Set) (given : Conditions) (l : Levels) → ConditionsFit given
-    → (p : ℕ) → getD (productsOf set given l) p 0 ≤ 4000000
-products-bound set given l fits p = at-most-at (products-fit set given l fits) 0 (lit≤ tt) p
+pub product-at-bound : (set : Set) (given : Conditions) (level : Substance → ℕ) → ConditionsFit given
+    → (p : ℕ) → p < processes → productAt set given level p ≤ 4000000
+unfolding productAt rateAt
+product-at-bound set given level fits p h =
+    let fs = getD (ratesOf set) p noRate .factors in
+    let rise = allOf-at (λ r. leb (riseOfAll (r .factors)) 4) (ratesOf set) p noRate (rises set) (unfold ratesOf in h) in
+    omega (arith, product-bound given fits level (takesPhosphate set p) fs 1000000, leb-true (riseOfAll fs) 4 rise)
 
--- q is at most 3,333,333,333.
-pub quota-bound : {k p seconds : ℕ} → k ≤ 20000 → p ≤ 4000000 → seconds ≤ mostSeconds → quota k p seconds ≤ 3333333333
-unfolding quota
+-- q of a rate constant, a product and seconds in these bounds is at most 3,333,333,333.
+pub quota-bound : {k p seconds : ℕ} → k ≤ 20000 → p ≤ 4000000 → seconds ≤ mostSeconds
+    → k * p * seconds / secondsPerDay ≤ 3333333333
 quota-bound h k l = omega (arith, mul-le-mul (mul-le-mul h k) l)
 
--- An extent is at most 3.5 × 10^15 millionths of a batch.
-pub extent-bound : {x q : ℕ} (b : ℕ) → x ≤ mostLevel → q ≤ 3333333333 → 1 ≤ b → extent x q b ≤ 3500000000000000
-unfolding extent
-extent-bound b h k l = div-le-of-le-mul (1000 * b) (omega (arith, mul-le-mul h k))
+-- A set that check 2 passes, conditions that check 6 passes, a cell whose levels are in their bounds.
+module _ (set : Set) (figures : figuresWrong set ≡ false) (given : Conditions) (fits : ConditionsFit given)
+    (amount : ℕ → ℤ) (p : ℕ) (h : p < processes) where
+  pub quota-at-bound : quotaAt set given amount p ≤ 3333333333
+  unfolding quotaAt
+  quota-at-bound =
+      quota-bound (constant-bound set figures p) (product-at-bound set given (levelsOf amount) fits p h) (fits .seconds)
+
+  -- An extent is at most 3.5 × 10^15 millionths of a batch.
+  pub extent-at-bound : levelsOf amount (rateAt set p .x) ≤ mostLevel → extentAt set given amount p ≤ 3500000000000000
+  unfolding extentAt
+  extent-at-bound l =
+      let batch = batch-bound set figures p h in
+      div-le-of-le-mul (1000 * processAt set p .batch) (omega (arith, mul-le-mul l quota-at-bound))

@@ -17,17 +17,17 @@ use Rattle.stoichiometry.specs.declared.HalfSaturations.{HalfSaturations}
 use Rattle.stoichiometry.specs.declared.RateConstants.{RateConstants}
 use Rattle.stoichiometry.specs.declared.Set.{Set}
 use Rattle.stoichiometry.specs.Substances.{substances, Total, contents}
+use Rattle.stoichiometry.specs.Levels.{levelOf}
 use Rattle.stoichiometry.specs.Parameters.{addsUp, inRange, fractionsWrong, figuresWrong, yieldsFit, constantsFit}
 use Rattle.stoichiometry.specs.Parameters.{publishedSet}
-use Rattle.stoichiometry.specs.Levels.{levelOf}
 use Rattle.stoichiometry.specs.Rows.{Process, entry, oxygenChange, row, processesOf, processAt, rowEntry, rowsOf}
 use Rattle.stoichiometry.specs.Sets.{Accepted, rowsWrong, setNumber, zeroSet, publishedAnswer}
 use Rattle.stoichiometry.proofs.Balance as Balance
 use Rattle.stoichiometry.proofs.PublishedSet as Published
 use Rattle.rows.specs.Answers.{rowsAnswer}
 use Rattle.kinetics.specs.Conditions.{temperaturesFit, conditionsWrong}
-use Rattle.kinetics.specs.Factors.{monod, inhibition, times}
-use Rattle.kinetics.specs.Rates.{levelsOf, takesPhosphate, takesNitrogen, productsOf, quota, extent, extentAt}
+use Rattle.kinetics.specs.Factors.{share, times}
+use Rattle.kinetics.specs.Rates.{takesPhosphate, takesNitrogen, ratesOf, rateAt, productAt, quotaAt, extentAt}
 use Rattle.river.specs.declared.River.{River}
 use Rattle.river.specs.Rivers.{mostCells, lowestAt, highestAt, amountFits, amountsFit, carriesFit, cellsFit, riverWrong}
 use Rattle.river.specs.Rivers.{cellExists, substanceExists, zeroRiver, freshAnswer}
@@ -107,7 +107,7 @@ process-balance = Balance.process-balance
 pub starred-hold : AllHold starred
 unfolding starred every allOf firstHolding sum tab fractionsWrong addsUp figuresWrong inRange yieldsFit constantsFit
     publishedAnswer rowsWrong setNumber entry oxygenChange row processesOf processAt rowEntry rowsOf rowsAnswer
-    monod inhibition times levelsOf takesPhosphate takesNitrogen productsOf quota extent extentAt temperaturesFit
+    share times takesPhosphate takesNitrogen ratesOf rateAt productAt quotaAt extentAt temperaturesFit
     conditionsWrong freshAnswer cellsFit lowestAt highestAt amountFits amountsFit carriesFit riverWrong cellExists
     substanceExists levelOf loadNumber loadAnswer passing leftOf movedOf flowNumber flowAnswer exchanged gain
     airFigureWrong airNumber airAnswer carried batches newCarry newAmount steppedAmounts steppedCarries batchesWrong

@@ -9,12 +9,12 @@ use Rattle.numeric.specs.Check.{firstHolding, _when_}
 use Rattle.numeric.specs.Sum.{sum}
 use Rattle.stoichiometry.specs.declared.Set.{Set}
 use Rattle.stoichiometry.specs.Substances.{substances, Total, carbon, hydrogen, oxygen, nitrogen, phosphorus, charge, contents, o2, nh4, place}
+use Rattle.stoichiometry.specs.Levels.{levelOf}
 use Rattle.stoichiometry.specs.Parameters.{fractionsWrong, figuresWrong}
 use Rattle.stoichiometry.specs.Sets.{rowsWrong}
 use Rattle.river.specs.declared.River.{River}
 use Rattle.river.specs.declared.Totals.{Totals}
 use Rattle.river.specs.declared.Letter.{Letter}
-use Rattle.stoichiometry.specs.Levels.{levelOf}
 use Rattle.river.specs.Rivers.{amountAt, riverWrong, cellExists}
 
 -- A total of a cell, counted from 0: the contents of all its amounts, added.

@@ -1,4 +1,5 @@
--- Levels (scope, "Units and substances"): the µg of a substance, or of its element, in an amount. No assumptions.
+-- Levels (scope, "Units and substances"): the µg of a substance, or of its element, in an amount. Law: level-bound in
+-- river/proofs/Levels.antt. No assumptions.
 use Prim.Native.Nat.{ℕ, _/_}
 use lib.IntN.{ℤ, natAbs}
 use Rattle.stoichiometry.specs.Substances.{Substance, organic, nh4, no2, no3, hpo4, o2, hco3, hPlus, xp, h2o, n2}
@@ -18,3 +19,7 @@ levelOf hPlus amount = 0
 levelOf xp amount = natAbs amount / grainsPerMicrogramP
 levelOf h2o amount = 0
 levelOf n2 amount = 0
+
+-- The most of a level, µg: that of 10^16 grains of O2.
+abbrev pub mostLevel : ℕ
+mostLevel = 1024065540

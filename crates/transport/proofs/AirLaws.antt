@@ -43,10 +43,6 @@ pub oxygen-fits : (n : ℕ) → n ≤ mostGrains → amountFits (place o2) (pos 
 unfolding amountFits lowestAt highestAt
 oxygen-fits n h = rw (le-leb 0 n zero-le, le-leb n mostGrains h)
 
-pub oxygen-level-bound : (x : ℤ) → amountFits (place o2) x ≡ true → levelOf o2 x ≤ 1024065540
-unfolding levelOf
-oxygen-level-bound x e = omega (arith, oxygen-bound x e)
-
 pub exchange-bound : (k seconds : ℕ) → k ≤ 20000 → seconds ≤ mostSeconds → k * 1000000 * seconds ≤ 72000000000000
 exchange-bound k seconds hk hs = mul-le-mul (mul-le-mul hk (le-refl 1000000)) hs
 

@@ -7,9 +7,9 @@ use lib.IntN.{ℤ, pos, _+ℤ_, _-ℤ_, _*ℤ_}
 use lib.Signed.{quotZ}
 use Rattle.numeric.specs.Check.{firstHolding, _when_}
 use Rattle.stoichiometry.specs.Substances.{o2, place, grainsPerMicrogramO}
+use Rattle.stoichiometry.specs.Levels.{levelOf}
 use Rattle.river.specs.declared.River.{River}
 use Rattle.transport.specs.declared.Aired.{Aired}
-use Rattle.stoichiometry.specs.Levels.{levelOf}
 use Rattle.river.specs.Rivers.{amountFits, amountAt, riverWrong, cellExists}
 use Rattle.transport.specs.Load.{withAmount}
 use Rattle.stoichiometry.specs.Limits.{mostSeconds, mostSaturation, secondsPerDay}

@@ -17,7 +17,8 @@ use Rattle.stoichiometry.specs.Substances.{o2, grainsPerMicrogramO}
 use Rattle.stoichiometry.specs.Levels.{levelOf}
 use Rattle.transport.specs.Air.{gain}
 use Rattle.stoichiometry.specs.Limits.{mostSaturation}
-use Rattle.transport.proofs.AirLaws.{oxygen-level-bound, exchanged-bound, constant-bound, seconds-bound, saturation-bound}
+use Rattle.river.proofs.Levels.{level-bound}
+use Rattle.transport.proofs.AirLaws.{exchanged-bound, constant-bound, seconds-bound, saturation-bound}
 use Rattle.transport.proofs.air.gain_of.Statement.{statement}
 use Rattle.transport.proofs.air.gain_of.Tie as tie
 
@@ -34,7 +35,7 @@ known c =
     let saturation : natAbs (c .before .wide .result) ≤ mostSaturation =
     rw (c .before .wide .ensures) (saturation-bound (a .constant) (a .seconds) (a .saturation) (start .pre .0)) in
     let level : natAbs (c .oxygen-level .result) ≤ 1024065540 =
-    rw (level-is c) (oxygen-level-bound (a .amount) (start .pre .1)) in
+    rw (level-is c) (level-bound o2 (a .amount) (start .pre .1)) in
     saturation & level & all
 
 -- The part that is exchanged, the saturation and the level.
