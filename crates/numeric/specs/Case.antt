@@ -1,5 +1,5 @@
 -- Worked cases: a table of computed values, each beside what it has to be. No assumptions.
-use mathlib.Core.List.{List, [], map}
+use mathlib.Core.List.{List, map}
 use mathlib.Core.Path.{_≡_}
 use lib.IntN.{ℤ}
 

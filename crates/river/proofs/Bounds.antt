@@ -1,12 +1,12 @@
 -- Bounds of an amount by the substance's place: where organics and net changes stand, what `lowestAt` and `highestAt`
 -- are there, and what is known of an amount that fits. Last, the machine's test for 0. No assumptions.
 use Prim.Native.Nat.{ℕ, zero, suc, _<_, _≤_}
-use mathlib.Core.Bool.{Bool, true, false, not, _&&_, _||_, cond}
+use mathlib.Core.Bool.{Bool, true, false, not, _&&_, cond}
 use mathlib.Core.List.{map}
 use mathlib.Core.Path.{_≡_, refl, sym, ap, ap₂, _∙_}
 use native.Mathlib.Omega.{arith}
 use borrow.Author.Tests.{not-true, le-leb, lt-leb, eq-eqb, ne-eqb, eqb-true, eqb-false}
-use lib.Dec.{leb, ltb, eqb, lit≤}
+use lib.Dec.{eqb, lit≤}
 use lib.IntN.{ℤ, pos, negsuc, negℤ, natAbs}
 use lib.ListN.{List·getD-eq-default}
 use lib.Signed.{leZ, _≤ℤ_}

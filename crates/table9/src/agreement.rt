@@ -1,7 +1,6 @@
 // An entry of a row against the figure that Table 9 prints for it. Processes and substances are counted from 0.
 ghost use mathlib.Core.Path.{_≡_};
 ghost use Prim.Native.Nat.{_≤_};
-ghost use lib.IntN.{natAbs};
 ghost use Rattle.table9.specs.Agreement.{InReach, distance, agreesWith};
 use numeric::magnitude;
 use stoichiometry::ENTRIES;

@@ -4,18 +4,6 @@ use Rattle.kinetics.specs.Conditions.{conditionsWrong}
 use Rattle.kinetics.proofs.conditions_wrong.Statement.{statement}
 use Rattle.kinetics.proofs.conditions_wrong.Tie as tie
 
-both-requires : tie.Need-both-requires
-both-requires c κs = search needs
-
-both-requires-2 : tie.Need-both-requires-2
-both-requires-2 c κs = search needs
-
-temperatures-fit-requires : tie.Need-temperatures-fit-requires
-temperatures-fit-requires c κs = search needs
-
-both-requires-3 : tie.Need-both-requires-3
-both-requires-3 c κs = search needs
-
 returns : tie.Need-returns
 unfolding conditionsWrong
 returns c =
@@ -27,4 +15,4 @@ returns c =
 pub conditions-wrong-spec : {M : Type 1} → statement M
 conditions-wrong-spec =
     tie.close
-    (tie.spec both-requires both-requires-2 temperatures-fit-requires both-requires-3 returns)
+    (tie.spec (λ c κs. search needs) (λ c κs. search needs) (λ c κs. search needs) (λ c κs. search needs) returns)

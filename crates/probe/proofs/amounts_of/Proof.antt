@@ -11,22 +11,13 @@ use Rattle.probe.proofs.amounts_of.Tie as tie
 fits : (c : tie.Then2) → frameFits (c .before .before .before .args .frame) ≡ true
 fits c = sym (c .before .frame-fits .ensures) ∙ c .if2 .taken
 
-refused-requires : tie.Need-refused-requires
-refused-requires c κs = search needs
-
 returns : tie.Need-returns
 returns c =
     let start = c .before .before in
     c .refused .ensures ∙ sym (saturation-refused (start .args .frame) (start .args .saturation) (lt-ltb _ _ (c .before .if1 .taken)))
 
-frame-fits-requires : tie.Need-frame-fits-requires
-frame-fits-requires c κs = search needs
-
 amounts-requires : tie.Need-amounts-requires
 amounts-requires c κs = (fits c, c .before .before .if1 .left)
-
-refused-requires-2 : tie.Need-refused-requires-2
-refused-requires-2 c κs = search needs
 
 returns-2 : tie.Need-returns-2
 returns-2 c =
@@ -47,10 +38,10 @@ pub amounts-of-spec : {M : Type 1} → statement M
 amounts-of-spec =
     tie.close
     (tie.spec
-    refused-requires
+    (λ c κs. search needs)
     returns
-    frame-fits-requires
+    (λ c κs. search needs)
     amounts-requires
-    refused-requires-2
+    (λ c κs. search needs)
     returns-2
     returns-3)

@@ -23,9 +23,6 @@ wrong c = wrong-tested (begun c .args .t1) _ (c .river-right .ensures)
 right : (c : tie.Else1) → riverWrong (begun (c .before) .args .t1) ≡ false
 right c = wrong (c .before) ∙ c .if1 .left
 
-river-right-requires : tie.Need-river-right-requires
-river-right-requires c κs = search needs
-
 returns : tie.Need-returns
 returns c =
     let tested = c .before in
@@ -33,12 +30,6 @@ returns c =
     let r = args .t1 in
     let holds = wrong tested ∙ c .if1 .taken in
     (sym (river-refused r (length (args .output .now)) (length (args .work .now)) holds), (sym (over-refused 4 r (args .output .now) refl), sym (over-refused 4 r (args .work .now) refl)))
-
-cast-n : tie.Need-cast-n
-cast-n c = search needs
-
-mul-bytes : tie.Need-mul-bytes
-mul-bytes c = search needs
 
 returns-2 : tie.Need-returns-2
 returns-2 c =
@@ -58,15 +49,6 @@ write-cells-requires c κs =
     let room = c .before .before .before .before .before in
     (river-cells (begun (room .before .before) .args .t1) (right (room .before)) .1, room .if2 .left)
 
-copy-bytes-requires : tie.Need-copy-bytes-requires
-copy-bytes-requires c κs = search needs
-
-same-length : tie.Need-same-length
-same-length c = search needs
-
-same-length-2 : tie.Need-same-length-2
-same-length-2 c = search needs
-
 returns-4 : tie.Need-returns-4
 unfolding recordOf
 returns-4 c =
@@ -85,14 +67,14 @@ pub write-record-spec : {M : Type 1} → statement M
 write-record-spec =
     tie.close
     (tie.spec
-    river-right-requires
+    (λ c κs. search needs)
     returns
-    cast-n
-    mul-bytes
+    (λ c. search needs)
+    (λ c. search needs)
     returns-2
     returns-3
     write-cells-requires
-    copy-bytes-requires
-    same-length
-    same-length-2
+    (λ c κs. search needs)
+    (λ c. search needs)
+    (λ c. search needs)
     returns-4)

@@ -17,26 +17,8 @@ within : (c : tie.Then1)
     → (1 ≤ c .before .before .before .args .cell) × ((c .before .before .before .args .cell - 1) * cellBytes + cellBytes ≤ length (c .before .before .before .args .text .now))
 within c = let args = c .before .before .before .args in cell-within (args .text .now) (args .cell) (number c)
 
-number-of-cell-requires : tie.Need-number-of-cell-requires
-number-of-cell-requires c κs = search needs
-
 sub-start : tie.Need-sub-start
 sub-start c = within c .0
-
-cast-start : tie.Need-cast-start
-cast-start c = search needs
-
-mul-start : tie.Need-mul-start
-mul-start c = search needs
-
-add-end : tie.Need-add-end
-add-end c = search needs
-
-sub-result : tie.Need-sub-result
-sub-result c = search needs
-
-part-result-start : tie.Need-part-result-start
-part-result-start c = search needs
 
 part-result-end : tie.Need-part-result-end
 part-result-end c = within c .1
@@ -48,15 +30,6 @@ returns c =
     let width : start + cellBytes - start ≡ cellBytes = omega arith in
     ap (λ (n : ℕ). take n (drop start (args .text .now))) width ∙ sym (lines-accepted (args .text .now) (args .cell) (number (c .before)))
 
-sub-result-2 : tie.Need-sub-result-2
-sub-result-2 c = search needs
-
-part-result-start-2 : tie.Need-part-result-start-2
-part-result-start-2 c = search needs
-
-part-result-end-2 : tie.Need-part-result-end-2
-part-result-end-2 c = search needs
-
 returns-2 : tie.Need-returns-2
 returns-2 c =
     let called = c .before .before in
@@ -67,16 +40,16 @@ pub lines-of-cell-spec : {M : Type 1} → statement M
 lines-of-cell-spec =
     tie.close
     (tie.spec
-    number-of-cell-requires
+    (λ c κs. search needs)
     sub-start
-    cast-start
-    mul-start
-    add-end
-    sub-result
-    part-result-start
+    (λ c. search needs)
+    (λ c. search needs)
+    (λ c. search needs)
+    (λ c. search needs)
+    (λ c. search needs)
     part-result-end
     returns
-    sub-result-2
-    part-result-start-2
-    part-result-end-2
+    (λ c. search needs)
+    (λ c. search needs)
+    (λ c. search needs)
     returns-2)

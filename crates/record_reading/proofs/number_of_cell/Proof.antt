@@ -14,9 +14,6 @@ is-record c =
     let number = ap (λ (a : Changed). a .number) (called .read-record .ensures) in
     read-record (called .before .before .args .text .now) (sym number ∙ c .if1 .left)
 
-read-record-requires : tie.Need-read-record-requires
-read-record-requires c κs = search needs
-
 returns : tie.Need-returns
 returns c =
     let called = c .before .before in
@@ -43,4 +40,4 @@ returns-4 c =
 
 pub number-of-cell-spec : {M : Type 1} → statement M
 number-of-cell-spec =
-    tie.close (tie.spec read-record-requires returns returns-2 returns-3 returns-4)
+    tie.close (tie.spec (λ c κs. search needs) returns returns-2 returns-3 returns-4)

@@ -52,12 +52,6 @@ wrong c =
     let then = c .before .before .before in
     ap riverWrong (sym (river then)) ∙ wrong-tested (made then) _ (c .river-right .ensures)
 
-size-fits-requires : tie.Need-size-fits-requires
-size-fits-requires c κs = search needs
-
-no-record-requires : tie.Need-no-record-requires
-no-record-requires c κs = search needs
-
 returns : tie.Need-returns
 returns c =
     let tested = c .before .before in
@@ -76,12 +70,6 @@ cast-cells c =
     let left = c .before .before .before .before in
     let size = size-known (left .before .before .before .args .text .now) (right-size left) in
     fits-below {n = 9} tt (omega (arith, size .0))
-
-river-right-requires : tie.Need-river-right-requires
-river-right-requires c κs = search needs
-
-no-record-requires-2 : tie.Need-no-record-requires-2
-no-record-requires-2 c κs = search needs
 
 returns-2 : tie.Need-returns-2
 returns-2 c =
@@ -102,9 +90,6 @@ returns-3 c =
     ap (λ (r : River). record { number = 0; river = r }) (river then)
     ∙ sym (answer-accepted text (record-right text (right-size left) (right-lines then) bounds))
 
-no-record-requires-3 : tie.Need-no-record-requires-3
-no-record-requires-3 c κs = search needs
-
 returns-4 : tie.Need-returns-4
 returns-4 c =
     let called = c .before .before in
@@ -117,14 +102,14 @@ pub read-record-spec : {M : Type 1} → statement M
 read-record-spec =
     tie.close
     (tie.spec
-    size-fits-requires
-    no-record-requires
+    (λ c κs. search needs)
+    (λ c κs. search needs)
     returns
     read-cells-requires
     cast-cells
-    river-right-requires
-    no-record-requires-2
+    (λ c κs. search needs)
+    (λ c κs. search needs)
     returns-2
     returns-3
-    no-record-requires-3
+    (λ c κs. search needs)
     returns-4)

@@ -7,9 +7,6 @@ use Rattle.river.proofs.Bounds.{none-tested}
 use Rattle.river.proofs.amount_in_bounds.Statement.{statement}
 use Rattle.river.proofs.amount_in_bounds.Tie as tie
 
-amount-fits-requires : tie.Need-amount-fits-requires
-amount-fits-requires c κs = search needs
-
 returns : tie.Need-returns
 returns c =
     let start = c .before .before in
@@ -22,4 +19,4 @@ returns-2 c =
     none-tested (start .args .place) (start .args .amount) (start .fits .amount) (c .if1 .left)
 
 pub amount-in-bounds-spec : {M : Type 1} → statement M
-amount-in-bounds-spec = tie.close (tie.spec amount-fits-requires returns returns-2)
+amount-in-bounds-spec = tie.close (tie.spec (λ c κs. search needs) returns returns-2)

@@ -6,15 +6,6 @@ use Rattle.river.proofs.Rivers.{amounts-beyond}
 use Rattle.river.proofs.amounts_in_bounds.Statement.{statement}
 use Rattle.river.proofs.amounts_in_bounds.Tie as tie
 
-amounts-fit-requires : tie.Need-amounts-fit-requires
-amounts-fit-requires c κs = search needs
-
-amounts-fit-requires-2 : tie.Need-amounts-fit-requires-2
-amounts-fit-requires-2 c κs = search needs
-
-returns : tie.Need-returns
-returns c = search needs
-
 returns-2 : tie.Need-returns-2
 returns-2 c =
     let above = c .before in
@@ -23,4 +14,4 @@ returns-2 c =
 
 pub amounts-in-bounds-spec : {M : Type 1} → statement M
 amounts-in-bounds-spec =
-    tie.close (tie.spec amounts-fit-requires amounts-fit-requires-2 returns returns-2)
+    tie.close (tie.spec (λ c κs. search needs) (λ c κs. search needs) (λ c. search needs) returns-2)

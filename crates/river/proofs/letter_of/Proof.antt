@@ -27,16 +27,10 @@ begun c = c .before .before .before .before
 wrong : (c : tie.After-river-right) → riverWrong (begun c .args .t1) ≡ not (c .river-right .result)
 wrong c = wrong-tested (begun c .args .t1) _ (c .river-right .ensures)
 
-river-right-requires : tie.Need-river-right-requires
-river-right-requires c κs = search needs
-
 -- Refused by 4.
 returns : tie.Need-returns
 unfolding letterAnswer letterNumber firstHolding
 returns c = rw (wrong (c .before) ∙ c .if1 .taken)
-
-both-requires : tie.Need-both-requires
-both-requires c κs = search needs
 
 abbrev start : tie.Then2 → tie.Start
 start c = begun (c .before .before .before)
@@ -54,9 +48,6 @@ at-most c = river-cells (start c .args .t1) (right (c .before .before)) .1
 
 sub-start : tie.Need-sub-start
 sub-start c = omega (arith, exists c)
-
-cast-start : tie.Need-cast-start
-cast-start c = search needs
 
 mul-start : tie.Need-mul-start
 mul-start c = omega (arith, exists c, at-most c)
@@ -118,11 +109,11 @@ pub letter-of-spec : {M : Type 1} → statement M
 letter-of-spec =
     tie.close
     (tie.spec
-    river-right-requires
+    (λ c κs. search needs)
     returns
-    both-requires
+    (λ c κs. search needs)
     sub-start
-    cast-start
+    (λ c. search needs)
     mul-start
     add-oxygen
     mul-oxygen

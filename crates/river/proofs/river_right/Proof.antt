@@ -17,9 +17,6 @@ cells-known : (c : tie.Else1) → c .before .before .args .cells ≤ mostCells
 unfolding cellsFit
 cells-known c = leb-within 1 (c .before .before .args .cells) mostCells (cells-right c) .1
 
-cells-fit-requires : tie.Need-cells-fit-requires
-cells-fit-requires c κs = search needs
-
 returns : tie.Need-returns
 returns c = rw (sym (c .before .cells-fit .ensures) ∙ not-true _ (c .if1 .taken))
 
@@ -45,7 +42,7 @@ pub river-right-spec : {M : Type 1} → statement M
 river-right-spec =
     tie.close
     (tie.spec
-    cells-fit-requires
+    (λ c κs. search needs)
     returns
     amounts-fit-requires
     returns-2

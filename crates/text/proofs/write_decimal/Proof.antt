@@ -21,9 +21,6 @@ returns c =
     (put-within-refused (args .out .now) (args .at) (decimal (args .width) (args .value))
     (omega (arith, decimal-length (args .width) (args .value))))
 
-sub-if2 : tie.Need-sub-if2
-sub-if2 c = search needs
-
 -- Not all columns are there.
 returns-2 : tie.Need-returns-2
 returns-2 c =
@@ -31,18 +28,6 @@ returns-2 c =
     sym
     (put-within-refused (args .out .now) (args .at) (decimal (args .width) (args .value))
     (omega (arith, decimal-length (args .width) (args .value))))
-
-mark-of-requires : tie.Need-mark-of-requires
-mark-of-requires c κs = search needs
-
-magnitude-requires : tie.Need-magnitude-requires
-magnitude-requires c κs = search needs
-
-write-plain-requires : tie.Need-write-plain-requires
-write-plain-requires c κs = search needs
-
-same-length : tie.Need-same-length
-same-length c = search needs
 
 -- Written.
 returns-3 : tie.Need-returns-3
@@ -75,11 +60,11 @@ write-decimal-spec =
     tie.close
     (tie.spec
     returns
-    sub-if2
+    (λ c. search needs)
     returns-2
-    mark-of-requires
-    magnitude-requires
-    write-plain-requires
-    same-length
+    (λ c κs. search needs)
+    (λ c κs. search needs)
+    (λ c κs. search needs)
+    (λ c. search needs)
     returns-3
     returns-4)

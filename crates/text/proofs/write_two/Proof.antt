@@ -16,9 +16,6 @@ returns c =
     let n = args .n in
     sym (put-within-refused (args .out .now) (args .at) (plain 2 32 n) (omega (arith, plain-length 2 32 n)))
 
-sub-if2 : tie.Need-sub-if2
-sub-if2 c = search needs
-
 -- Not both columns are there.
 returns-2 : tie.Need-returns-2
 returns-2 c =
@@ -26,29 +23,8 @@ returns-2 c =
     let n = args .n in
     sym (put-within-refused (args .out .now) (args .at) (plain 2 32 n) (omega (arith, plain-length 2 32 n)))
 
-add-second : tie.Need-add-second
-add-second c = search needs
-
-cast-glyph : tie.Need-cast-glyph
-cast-glyph c = search needs
-
-glyph-requires : tie.Need-glyph-requires
-glyph-requires c κs = search needs
-
-slice-write-out : tie.Need-slice-write-out
-slice-write-out c = search needs
-
-cast-out : tie.Need-cast-out
-cast-out c = search needs
-
-add-out : tie.Need-add-out
-add-out c = search needs
-
 slice-write-out-2 : tie.Need-slice-write-out-2
 slice-write-out-2 c = simp length-set (omega arith)
-
-same-length : tie.Need-same-length
-same-length c = search needs
 
 returns-3 : tie.Need-returns-3
 returns-3 c =
@@ -61,14 +37,14 @@ write-two-spec =
     tie.close
     (tie.spec
     returns
-    sub-if2
+    (λ c. search needs)
     returns-2
-    add-second
-    cast-glyph
-    glyph-requires
-    slice-write-out
-    cast-out
-    add-out
+    (λ c. search needs)
+    (λ c. search needs)
+    (λ c κs. search needs)
+    (λ c. search needs)
+    (λ c. search needs)
+    (λ c. search needs)
     slice-write-out-2
-    same-length
+    (λ c. search needs)
     returns-3)

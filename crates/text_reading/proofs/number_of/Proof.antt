@@ -10,15 +10,6 @@ use Rattle.text_reading.proofs.ReadingLoop.{ready-minus, ready-plain}
 use Rattle.text_reading.proofs.number_of.Statement.{statement}
 use Rattle.text_reading.proofs.number_of.Tie as tie
 
-blanks-requires : tie.Need-blanks-requires
-blanks-requires c κs = search needs
-
-shared-slice-read-if2 : tie.Need-shared-slice-read-if2
-shared-slice-read-if2 c = search needs
-
-add-number-after : tie.Need-add-number-after
-add-number-after c = search needs
-
 number-after-requires : tie.Need-number-after-requires
 number-after-requires c κs =
     let at-blanks = c .before .before .before in
@@ -54,9 +45,9 @@ pub number-of-spec : {M : Type 1} → statement M
 number-of-spec =
     tie.close
     (tie.spec
-    blanks-requires
-    shared-slice-read-if2
-    add-number-after
+    (λ c κs. search needs)
+    (λ c. search needs)
+    (λ c. search needs)
     number-after-requires
     returns
     number-after-requires-2

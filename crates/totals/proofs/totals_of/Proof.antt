@@ -48,12 +48,6 @@ wrong c = wrong-tested (known c .before .before .args .t2) _ (c .river-right .en
 right : (c : tie.Else2) → riverWrong (known (c .before) .before .before .args .t2) ≡ false
 right c = wrong (c .before) ∙ c .if2 .left
 
-number-of-requires : tie.Need-number-of-requires
-number-of-requires c κs = search needs
-
-refused-totals-requires : tie.Need-refused-totals-requires
-refused-totals-requires c κs = search needs
-
 -- Refused by 1, 2 or 3.
 returns : tie.Need-returns
 returns c =
@@ -62,12 +56,6 @@ returns c =
     let is = at-number .number-of .ensures in
     c .refused-totals .ensures ∙ ap refusedTotals is
     ∙ sym (totals-set-refused (a .set) (a .t2) (a .cell) (λ e. c .before .if1 .taken (is ∙ e)))
-
-river-right-requires : tie.Need-river-right-requires
-river-right-requires c κs = search needs
-
-refused-totals-requires-2 : tie.Need-refused-totals-requires-2
-refused-totals-requires-2 c κs = search needs
 
 -- By 4.
 returns-2 : tie.Need-returns-2
@@ -78,17 +66,8 @@ returns-2 c =
     c .refused-totals2 .ensures
     ∙ sym (totals-river-refused (a .set) (a .t2) (a .cell) (accepted (known at-river)) holds)
 
-both-requires : tie.Need-both-requires
-both-requires c κs = search needs
-
 sub-cell-start : tie.Need-sub-cell-start
 sub-cell-start c = omega (arith, inside c .0)
-
-cast-cell-start : tie.Need-cast-cell-start
-cast-cell-start c = search needs
-
-mul-cell-start : tie.Need-mul-cell-start
-mul-cell-start c = search needs
 
 totals-at-requires : tie.Need-totals-at-requires
 totals-at-requires c κs =
@@ -109,9 +88,6 @@ returns-3 c =
     c .totals-at .ensures
     ∙ sym (totals-accepted (a .set) (a .t2) (a .cell) (accepted (known (passed .before))) (right passed) (exists at-cell))
 
-refused-totals-requires-3 : tie.Need-refused-totals-requires-3
-refused-totals-requires-3 c κs = search needs
-
 -- By 5.
 returns-4 : tie.Need-returns-4
 unfolding cellExists
@@ -127,17 +103,17 @@ pub totals-of-spec : {M : Type 1} → statement M
 totals-of-spec =
     tie.close
     (tie.spec
-    number-of-requires
-    refused-totals-requires
+    (λ c κs. search needs)
+    (λ c κs. search needs)
     returns
-    river-right-requires
-    refused-totals-requires-2
+    (λ c κs. search needs)
+    (λ c κs. search needs)
     returns-2
-    both-requires
+    (λ c κs. search needs)
     sub-cell-start
-    cast-cell-start
-    mul-cell-start
+    (λ c. search needs)
+    (λ c. search needs)
     totals-at-requires
     returns-3
-    refused-totals-requires-3
+    (λ c κs. search needs)
     returns-4)

@@ -81,17 +81,11 @@ gain-kept c =
     toZ-ofZ (sfits-of (c .gain-of .ok))
     ∙ (rw (c .before .amount-at .ensures, amount-kept (c .before .before .before .before)) at (c .gain-of .ensures))
 
-river-right-requires : tie.Need-river-right-requires
-river-right-requires c κs = search needs
-
 -- Refused by 4.
 returns : tie.Need-returns
 returns c =
     let a = begun (c .before) .args in
     sym (air-refused-river (a .river) (a .cell) (a .constant) (a .seconds) (a .saturation) (wrong (c .before) ∙ c .if1 .taken))
-
-cell-exists-requires : tie.Need-cell-exists-requires
-cell-exists-requires c κs = search needs
 
 missing : (c : tie.Then2) → let args = begun (c .before .before .before) .args in cellExists (args .river) (args .cell) ≡ false
 unfolding cellExists
@@ -103,9 +97,6 @@ returns-2 c =
     let known = c .before .before in
     let a = begun (known .before) .args in
     sym (air-refused-cell (a .river) (a .cell) (a .constant) (a .seconds) (a .saturation) (right known) (missing c))
-
-figure-wrong-requires : tie.Need-figure-wrong-requires
-figure-wrong-requires c κs = search needs
 
 -- Refused by 6.
 returns-3 : tie.Need-returns-3
@@ -119,9 +110,6 @@ returns-3 c =
 
 sub-c : tie.Need-sub-c
 sub-c c = cell-known c .0
-
-cast-c : tie.Need-cast-c
-cast-c c = search needs
 
 amount-at-requires : tie.Need-amount-at-requires
 amount-at-requires c κs =
@@ -167,14 +155,14 @@ pub air-river-spec : {M : Type 1} → statement M
 air-river-spec =
     tie.close
     (tie.spec
-    river-right-requires
+    (λ c κs. search needs)
     returns
-    cell-exists-requires
+    (λ c κs. search needs)
     returns-2
-    figure-wrong-requires
+    (λ c κs. search needs)
     returns-3
     sub-c
-    cast-c
+    (λ c. search needs)
     amount-at-requires
     gain-of-requires
     add-set-amount

@@ -26,9 +26,6 @@ right c = wrong (c .before) ∙ c .if1 .left
 long : (c : tie.Start) → length (c .args .river .amounts) ≡ mostCells * substances
 long c = search needs
 
-river-right-requires : tie.Need-river-right-requires
-river-right-requires c κs = search needs
-
 -- Refused by 4.
 returns : tie.Need-returns
 returns c =
@@ -47,9 +44,6 @@ left-all-requires : tie.Need-left-all-requires
 left-all-requires c κs =
     let at-part = c .before .before in
     (at-part .if2 .left, river-small (begun (at-part .before .before) .args .river) (right (at-part .before)))
-
-cast-move-amounts : tie.Need-cast-move-amounts
-cast-move-amounts c = search needs
 
 move-amounts-requires : tie.Need-move-amounts-requires
 move-amounts-requires c κs =
@@ -78,10 +72,10 @@ pub flow-river-spec : {M : Type 1} → statement M
 flow-river-spec =
     tie.close
     (tie.spec
-    river-right-requires
+    (λ c κs. search needs)
     returns
     returns-2
     left-all-requires
-    cast-move-amounts
+    (λ c. search needs)
     move-amounts-requires
     returns-3)

@@ -89,23 +89,11 @@ sum-fits c =
     let substance = substance-known at-checks in
     fits-abs _ (omega (arith, fits-bound (a .substance - 1) (amount at-checks +ℤ a .number) (omega arith) in-bounds))
 
-river-right-requires : tie.Need-river-right-requires
-river-right-requires c κs = search needs
-
 -- Refused by 4.
 returns : tie.Need-returns
 returns c =
     let a = begun (c .before) .args in
     sym (load-refused-river (a .river) (a .cell) (a .substance) (a .number) (wrong (c .before) ∙ c .if1 .taken))
-
-cell-exists-requires : tie.Need-cell-exists-requires
-cell-exists-requires c κs = search needs
-
-substance-exists-requires : tie.Need-substance-exists-requires
-substance-exists-requires c κs = search needs
-
-both-requires : tie.Need-both-requires
-both-requires c κs = search needs
 
 missing : (c : tie.Then2) → let a = begun (c .before .before .before .before .before) .args in
     cellExists (a .river) (a .cell) && substanceExists (a .substance) ≡ false
@@ -126,14 +114,8 @@ returns-2 c =
 sub-c : tie.Need-sub-c
 sub-c c = cell-known c .0
 
-cast-c : tie.Need-cast-c
-cast-c c = search needs
-
 sub-s : tie.Need-sub-s
 sub-s c = substance-known c .0
-
-cast-s : tie.Need-cast-s
-cast-s c = search needs
 
 amount-at-requires : tie.Need-amount-at-requires
 amount-at-requires c κs =
@@ -192,16 +174,16 @@ pub load-river-spec : {M : Type 1} → statement M
 load-river-spec =
     tie.close
     (tie.spec
-    river-right-requires
+    (λ c κs. search needs)
     returns
-    cell-exists-requires
-    substance-exists-requires
-    both-requires
+    (λ c κs. search needs)
+    (λ c κs. search needs)
+    (λ c κs. search needs)
     returns-2
     sub-c
-    cast-c
+    (λ c. search needs)
     sub-s
-    cast-s
+    (λ c. search needs)
     amount-at-requires
     sum-fits-requires
     returns-3

@@ -16,9 +16,6 @@ small c =
     let start = c .before in
     rw (c .scaled-floor .ensures) (grains-bound (start .args .x) (start .args .numerator) (start .args .denominator) (start .args .weight) (start .pre .0) (start .pre .2) (start .pre .1) (start .pre .3))
 
-scaled-floor-requires : tie.Need-scaled-floor-requires
-scaled-floor-requires c κs = search needs
-
 mul-result : tie.Need-mul-result
 mul-result c = fits-below {n = 114278400000000001} tt (omega (arith, small c))
 
@@ -29,4 +26,4 @@ returns : tie.Need-returns
 returns c = toZ-pos w64 (omega (arith, small c)) ∙ ap (λ (n : ℕ). pos (n * c .before .args .weight)) (c .scaled-floor .ensures)
 
 pub grains-spec : {M : Type 1} → statement M
-grains-spec = tie.close (tie.spec scaled-floor-requires mul-result cast-result returns)
+grains-spec = tie.close (tie.spec (λ c κs. search needs) mul-result cast-result returns)

@@ -10,20 +10,11 @@ use borrow.Author.Needs.{needs}
 use Rattle.probe.proofs.frames.oxygen_amount.Statement.{statement}
 use Rattle.probe.proofs.frames.oxygen_amount.Tie as tie
 
-enum-known-oxygen : tie.Need-enum-known-oxygen
-enum-known-oxygen c = search needs
-
 grains-requires : tie.Need-grains-requires
 grains-requires c κs = (ap oxygenFits (sym (c .before .oxygen .given .1)) ∙ c .before .before .before .pre .0, lit≤ tt, lit≤ tt, lit≤ tt)
 
-enum-known-oxygen-2 : tie.Need-enum-known-oxygen-2
-enum-known-oxygen-2 c = search needs
-
 grains-requires-2 : tie.Need-grains-requires-2
 grains-requires-2 c κs = (ap oxygenFits (sym (c .before .oxygen2 .given .1)) ∙ c .before .before .before .pre .0, c .before .before .before .pre .1, lit≤ tt, lit≤ tt)
-
-enum-told : tie.Need-enum-told
-enum-told c = search needs
 
 returns : tie.Need-returns
 returns c =
@@ -39,18 +30,15 @@ returns-2 c =
     ap Grains (toZ-ofZ (sfits-of (c .grains2 .ok)) ∙ c .grains2 .ensures)
     ∙ sym (ap (λ (o : Oxygen). oxygenAmount o (start .args .saturation)) (known .oxygen2 .given .1))
 
-returns-3 : tie.Need-returns-3
-returns-3 c = search needs
-
 pub oxygen-amount-spec : {M : Type 1} → statement M
 oxygen-amount-spec =
     tie.close
     (tie.spec
-    enum-known-oxygen
+    (λ c. search needs)
     grains-requires
-    enum-known-oxygen-2
+    (λ c. search needs)
     grains-requires-2
-    enum-told
+    (λ c. search needs)
     returns
     returns-2
-    returns-3)
+    (λ c. search needs))

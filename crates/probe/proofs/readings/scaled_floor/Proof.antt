@@ -29,22 +29,13 @@ cast-bits c = record { fits = lt-of-lt-of-le (toBits-lt binary32 (c .args .x) (h
 returns : tie.Need-returns
 returns c = sym (facts (c .before) .none (c .if1 .taken))
 
-add-scaled : tie.Need-add-scaled
-add-scaled c = search needs
-
 mul-scaled : tie.Need-mul-scaled
 mul-scaled c =
     let start = c .before in
     record { fits = fits-64 (toBits binary32 (start .args .x) % 8388608) (start .args .numerator) (mod-lt (toBits binary32 (start .args .x)) (lit< tt)) (start .pre .1) }
 
-div-scaled : tie.Need-div-scaled
-div-scaled c = search needs
-
 sub-shift : tie.Need-sub-shift
 sub-shift c = omega (arith, facts (c .before) .high)
-
-shr-result : tie.Need-shr-result
-shr-result c = search needs
 
 returns-2 : tie.Need-returns-2
 returns-2 c = sym (facts (c .before .before) .some (c .before .if1 .left))
@@ -63,10 +54,10 @@ scaled-floor-spec =
     float-to-bits-bits
     cast-bits
     returns
-    add-scaled
+    (λ c. search needs)
     mul-scaled
-    div-scaled
+    (λ c. search needs)
     sub-shift
-    shr-result
+    (λ c. search needs)
     returns-2
     returns-3)

@@ -24,23 +24,11 @@ loop-holds c = (omega arith, refl, numbers-start _)
 slice-aggregate-write-two : tie.Need-slice-aggregate-write-two Inv-loop μ-loop
 slice-aggregate-write-two c = sym (c .before .before .loop .inv .1)
 
-mul-write-two : tie.Need-mul-write-two Inv-loop μ-loop
-mul-write-two c = omega arith
-
-add-write-two : tie.Need-add-write-two Inv-loop μ-loop
-add-write-two c = omega arith
-
 cast-write-two : tie.Need-cast-write-two Inv-loop μ-loop
 cast-write-two c = fits-below {n = 100} tt (omega arith)
 
 write-two-requires : tie.Need-write-two-requires Inv-loop μ-loop
 write-two-requires c κs = tt
-
-add-k : tie.Need-add-k Inv-loop μ-loop
-add-k c = omega arith
-
-loop-less : tie.Need-loop-less Inv-loop μ-loop
-loop-less c = omega arith
 
 loop-again : tie.Need-loop-again Inv-loop μ-loop
 loop-again c =
@@ -62,11 +50,11 @@ line-numbers-spec =
     μ-loop
     loop-holds
     slice-aggregate-write-two
-    mul-write-two
-    add-write-two
+    (λ c. omega arith)
+    (λ c. omega arith)
     cast-write-two
     write-two-requires
-    add-k
-    loop-less
+    (λ c. omega arith)
+    (λ c. omega arith)
     loop-again
     returns)

@@ -28,12 +28,6 @@ kept c =
     ap length (c .loop .inv .1)
     ∙ put-length (args .out .now) (args .c * cellBytes) (cellText (c .loop .k) value (args .c)) (omega arith)
 
-mul-start : tie.Need-mul-start Inv-loop μ-loop
-mul-start c = omega arith
-
-add-cell : tie.Need-add-cell Inv-loop μ-loop
-add-cell c = omega arith
-
 cast-cell : tie.Need-cast-cell Inv-loop μ-loop
 cast-cell c = fits-below {n = 100} tt (omega arith)
 
@@ -43,22 +37,10 @@ loop-holds c = (omega arith, lines-start _ _ _ _)
 value-at-requires : tie.Need-value-at-requires Inv-loop μ-loop
 value-at-requires c κs = (omega arith, omega arith)
 
-mul-write-line : tie.Need-mul-write-line Inv-loop μ-loop
-mul-write-line c = omega arith
-
-add-write-line : tie.Need-add-write-line Inv-loop μ-loop
-add-write-line c = omega arith
-
 write-line-requires : tie.Need-write-line-requires Inv-loop μ-loop
 write-line-requires c κs =
     let at-loop = c .before .before .before in
     (omega arith, omega (arith, kept at-loop), at-loop .before .before .pre .2)
-
-add-k : tie.Need-add-k Inv-loop μ-loop
-add-k c = omega arith
-
-loop-less : tie.Need-loop-less Inv-loop μ-loop
-loop-less c = omega arith
 
 loop-again : tie.Need-loop-again Inv-loop μ-loop
 loop-again c =
@@ -90,16 +72,16 @@ write-cell-spec =
     (tie.spec
     Inv-loop
     μ-loop
-    mul-start
-    add-cell
+    (λ c. omega arith)
+    (λ c. omega arith)
     cast-cell
     loop-holds
     value-at-requires
-    mul-write-line
-    add-write-line
+    (λ c. omega arith)
+    (λ c. omega arith)
     write-line-requires
-    add-k
-    loop-less
+    (λ c. omega arith)
+    (λ c. omega arith)
     loop-again
     same-length
     returns)

@@ -35,12 +35,6 @@ write-cell-requires c κs =
     let at-loop = c .before .before .before in
     (omega arith, omega (arith, kept at-loop), at-loop .before .line-numbers .ensures)
 
-add-c : tie.Need-add-c Inv-loop μ-loop
-add-c c = omega arith
-
-loop-less : tie.Need-loop-less Inv-loop μ-loop
-loop-less c = omega arith
-
 loop-again : tie.Need-loop-again Inv-loop μ-loop
 loop-again c =
     let called = c .before .before in
@@ -69,8 +63,8 @@ write-cells-spec =
     line-numbers-requires
     loop-holds
     write-cell-requires
-    add-c
-    loop-less
+    (λ c. omega arith)
+    (λ c. omega arith)
     loop-again
     same-length
     returns)

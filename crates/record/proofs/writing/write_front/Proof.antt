@@ -7,27 +7,6 @@ use Rattle.record.proofs.writing.write_front.Statement.{statement}
 use Rattle.record.proofs.writing.write_front.Tie as tie
 use Rattle.record.specs.Lines.{lines}
 
-write-two-requires : tie.Need-write-two-requires
-write-two-requires c κs = search needs
-
-slice-write-line : tie.Need-slice-write-line
-slice-write-line c = search needs
-
-mul-tens : tie.Need-mul-tens
-mul-tens c = search needs
-
-element-copy-out-tens : tie.Need-element-copy-out-tens
-element-copy-out-tens c = search needs
-
-mul-ones : tie.Need-mul-ones
-mul-ones c = search needs
-
-add-ones : tie.Need-add-ones
-add-ones c = search needs
-
-element-copy-out-ones : tie.Need-element-copy-out-ones
-element-copy-out-ones c = search needs
-
 slice-write-line-2 : tie.Need-slice-write-line-2
 slice-write-line-2 c = simp length-set (omega (arith, c .before .before .before .before .write-two .kept .0))
 
@@ -36,9 +15,6 @@ slice-write-line-3 c = simp length-set (omega (arith, c .before .before .before 
 
 slice-write-line-4 : tie.Need-slice-write-line-4
 slice-write-line-4 c = simp length-set (omega (arith, c .before .before .before .before .write-two .kept .0))
-
-same-length : tie.Need-same-length
-same-length c = search needs
 
 returns : tie.Need-returns
 returns c =
@@ -52,15 +28,15 @@ pub write-front-spec : {M : Type 1} → statement M
 write-front-spec =
     tie.close
     (tie.spec
-    write-two-requires
-    slice-write-line
-    mul-tens
-    element-copy-out-tens
-    mul-ones
-    add-ones
-    element-copy-out-ones
+    (λ c κs. search needs)
+    (λ c. search needs)
+    (λ c. search needs)
+    (λ c. search needs)
+    (λ c. search needs)
+    (λ c. search needs)
+    (λ c. search needs)
     slice-write-line-2
     slice-write-line-3
     slice-write-line-4
-    same-length
+    (λ c. search needs)
     returns)

@@ -14,30 +14,6 @@ use Rattle.record.proofs.writing.write_line.Statement.{statement}
 use Rattle.record.proofs.writing.write_line.Tie as tie
 use Rattle.record.specs.Lines.{lineBytes}
 
-add-end : tie.Need-add-end
-add-end c = search needs
-
-sub-line : tie.Need-sub-line
-sub-line c = search needs
-
-part-line-start : tie.Need-part-line-start
-part-line-start c = search needs
-
-part-line-end : tie.Need-part-line-end
-part-line-end c = search needs
-
-write-front-requires : tie.Need-write-front-requires
-write-front-requires c κs = search needs
-
-write-decimal-requires : tie.Need-write-decimal-requires
-write-decimal-requires c κs = search needs
-
-slice-write-line : tie.Need-slice-write-line
-slice-write-line c = search needs
-
-same-length : tie.Need-same-length
-same-length c = search needs
-
 returns : tie.Need-returns
 returns c =
     let value = c .before .before .before .before in
@@ -56,12 +32,12 @@ pub write-line-spec : {M : Type 1} → statement M
 write-line-spec =
     tie.close
     (tie.spec
-    add-end
-    sub-line
-    part-line-start
-    part-line-end
-    write-front-requires
-    write-decimal-requires
-    slice-write-line
-    same-length
+    (λ c. search needs)
+    (λ c. search needs)
+    (λ c. search needs)
+    (λ c. search needs)
+    (λ c κs. search needs)
+    (λ c κs. search needs)
+    (λ c. search needs)
+    (λ c. search needs)
     returns)

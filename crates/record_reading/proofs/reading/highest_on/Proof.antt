@@ -6,9 +6,6 @@ use Rattle.record_reading.specs.Reading.{highestOn}
 use Rattle.record_reading.proofs.reading.highest_on.Statement.{statement}
 use Rattle.record_reading.proofs.reading.highest_on.Tie as tie
 
-cast-result : tie.Need-cast-result
-cast-result c = search needs
-
 returns : tie.Need-returns
 unfolding highestOn
 returns c = rw (lt-ltb _ _ (c .if1 .taken)) refl
@@ -18,4 +15,4 @@ unfolding highestOn
 returns-2 c = rw (le-ltb _ _ (c .if1 .left)) refl
 
 pub highest-on-spec : {M : Type 1} → statement M
-highest-on-spec = tie.close (tie.spec cast-result returns returns-2)
+highest-on-spec = tie.close (tie.spec (λ c. search needs) returns returns-2)

@@ -11,41 +11,11 @@ use borrow.Author.Needs.{needs}
 use Rattle.record_reading.proofs.reading.line_number.Statement.{statement}
 use Rattle.record_reading.proofs.reading.line_number.Tie as tie
 
-add-if1 : tie.Need-add-if1
-add-if1 c = search needs
-
-shared-slice-read-if1 : tie.Need-shared-slice-read-if1
-shared-slice-read-if1 c = search needs
-
-no-number-requires : tie.Need-no-number-requires
-no-number-requires c κs = search needs
-
 returns : tie.Need-returns
 returns c =
     let start = c .before .before .before .before in
     let args = start .args in
     c .no-number .ensures ∙ sym (end-refused (args .text .now) (args .at) (start .pre) (args .cell) (args .number) (args .lowest) (args .highest) (c .before .if1 .taken))
-
-front-right-requires : tie.Need-front-right-requires
-front-right-requires c κs = search needs
-
-add-start : tie.Need-add-start
-add-start c = search needs
-
-add-end : tie.Need-add-end
-add-end c = search needs
-
-sub-number-of : tie.Need-sub-number-of
-sub-number-of c = search needs
-
-part-number-of-start : tie.Need-part-number-of-start
-part-number-of-start c = search needs
-
-part-number-of-end : tie.Need-part-number-of-end
-part-number-of-end c = search needs
-
-number-of-requires : tie.Need-number-of-requires
-number-of-requires c κs = search needs
 
 returns-2 : tie.Need-returns-2
 returns-2 c =
@@ -62,9 +32,6 @@ returns-2 c =
     ∙ (λ i. parse (toZ-ofZ (start .fits .lowest) i) (toZ-ofZ (start .fits .highest) i) (columns i))
     ∙ sym read
 
-no-number-requires-2 : tie.Need-no-number-requires-2
-no-number-requires-2 c κs = search needs
-
 returns-3 : tie.Need-returns-3
 returns-3 c =
     let tested = c .before .before in
@@ -77,17 +44,17 @@ pub line-number-spec : {M : Type 1} → statement M
 line-number-spec =
     tie.close
     (tie.spec
-    add-if1
-    shared-slice-read-if1
-    no-number-requires
+    (λ c. search needs)
+    (λ c. search needs)
+    (λ c κs. search needs)
     returns
-    front-right-requires
-    add-start
-    add-end
-    sub-number-of
-    part-number-of-start
-    part-number-of-end
-    number-of-requires
+    (λ c κs. search needs)
+    (λ c. search needs)
+    (λ c. search needs)
+    (λ c. search needs)
+    (λ c. search needs)
+    (λ c. search needs)
+    (λ c κs. search needs)
     returns-2
-    no-number-requires-2
+    (λ c κs. search needs)
     returns-3)

@@ -6,9 +6,6 @@ use Rattle.record_reading.specs.Reading.{lowestOn}
 use Rattle.record_reading.proofs.reading.lowest_on.Statement.{statement}
 use Rattle.record_reading.proofs.reading.lowest_on.Tie as tie
 
-sub-result : tie.Need-sub-result
-sub-result c = search needs
-
 returns : tie.Need-returns
 unfolding lowestOn
 returns c = rw (lt-ltb _ _ (c .if1 .taken)) refl
@@ -18,4 +15,4 @@ unfolding lowestOn
 returns-2 c = rw (le-ltb _ _ (c .if1 .left)) refl
 
 pub lowest-on-spec : {M : Type 1} → statement M
-lowest-on-spec = tie.close (tie.spec sub-result returns returns-2)
+lowest-on-spec = tie.close (tie.spec (λ c. search needs) returns returns-2)

@@ -54,44 +54,14 @@ value c =
     (result-is _ (c .before .highest-on .ensures) (c .before .highest-on .ok))
     ∙ value-on (args .text .now) (args .c) k
 
-mul-start : tie.Need-mul-start Inv-loop μ-loop
-mul-start c = omega arith
-
-mul-amount : tie.Need-mul-amount Inv-loop μ-loop
-mul-amount c = omega arith
-
-mul-carry : tie.Need-mul-carry Inv-loop μ-loop
-mul-carry c = omega arith
-
-add-cell : tie.Need-add-cell Inv-loop μ-loop
-add-cell c = omega arith
-
 cast-cell : tie.Need-cast-cell Inv-loop μ-loop
 cast-cell c = fits-below {n = 100} tt (omega arith)
 
 loop-holds : tie.Need-loop-holds Inv-loop μ-loop
 loop-holds c = (omega arith, every-none _, run-none _ _ _, run-none _ _ _)
 
-mul-line-number : tie.Need-mul-line-number Inv-loop μ-loop
-mul-line-number c = omega arith
-
-add-line-number : tie.Need-add-line-number Inv-loop μ-loop
-add-line-number c = omega arith
-
-add-line-number-2 : tie.Need-add-line-number-2 Inv-loop μ-loop
-add-line-number-2 c = omega arith
-
 cast-line-number : tie.Need-cast-line-number Inv-loop μ-loop
 cast-line-number c = fits-below {n = 100} tt (omega arith)
-
-lowest-on-requires : tie.Need-lowest-on-requires Inv-loop μ-loop
-lowest-on-requires c κs = search needs
-
-highest-on-requires : tie.Need-highest-on-requires Inv-loop μ-loop
-highest-on-requires c κs = search needs
-
-line-number-requires : tie.Need-line-number-requires Inv-loop μ-loop
-line-number-requires c κs = omega arith
 
 returns : tie.Need-returns Inv-loop μ-loop
 returns c =
@@ -103,15 +73,6 @@ returns c =
       sym (every-fails lines (at-loop .loop .k) (λ q. valueAt (args .text .now) (args .c) q .ok) (in-loop .loop-test .taken) wrong),
       (λ h. absurd (false≢true h), λ h. absurd (false≢true h)),
     )
-
-add-value : tie.Need-add-value Inv-loop μ-loop
-add-value c = omega arith
-
-mul-value : tie.Need-mul-value Inv-loop μ-loop
-mul-value c = omega arith
-
-element-set-from-value : tie.Need-element-set-from-value Inv-loop μ-loop
-element-set-from-value c = omega arith
 
 -- The line has its value, which fits.
 right : (c : tie.Else1 Inv-loop μ-loop) → valueOn (turnOf (c .before .before)) .ok ≡ true
@@ -140,21 +101,6 @@ cast-carries c =
     let args = at-loop .before .before .args in
     let range = carry-range (args .text .now) (args .c) (at-loop .loop .k) (c .if2 .left) (right left) in
     rw (carry-read left (c .if2 .left)) (yes-nonNeg (range .0), fits-below {n = 1000000} tt (omega (arith, range .1)))
-
-add-carries : tie.Need-add-carries Inv-loop μ-loop
-add-carries c = omega arith
-
-mul-carries : tie.Need-mul-carries Inv-loop μ-loop
-mul-carries c = omega arith
-
-element-write-carries : tie.Need-element-write-carries Inv-loop μ-loop
-element-write-carries c = omega arith
-
-add-k : tie.Need-add-k Inv-loop μ-loop
-add-k c = omega arith
-
-loop-less : tie.Need-loop-less Inv-loop μ-loop
-loop-less c = omega arith
 
 loop-again : tie.Need-loop-again Inv-loop μ-loop
 loop-again c =
@@ -196,28 +142,28 @@ read-cell-spec =
     (tie.spec
     Inv-loop
     μ-loop
-    mul-start
-    mul-amount
-    mul-carry
-    add-cell
+    (λ c. omega arith)
+    (λ c. omega arith)
+    (λ c. omega arith)
+    (λ c. omega arith)
     cast-cell
     loop-holds
-    mul-line-number
-    add-line-number
-    add-line-number-2
+    (λ c. omega arith)
+    (λ c. omega arith)
+    (λ c. omega arith)
     cast-line-number
-    lowest-on-requires
-    highest-on-requires
-    line-number-requires
+    (λ c κs. search needs)
+    (λ c κs. search needs)
+    (λ c κs. omega arith)
     returns
-    add-value
-    mul-value
-    element-set-from-value
+    (λ c. omega arith)
+    (λ c. omega arith)
+    (λ c. omega arith)
     cast-carries
-    add-carries
-    mul-carries
-    element-write-carries
-    add-k
-    loop-less
+    (λ c. omega arith)
+    (λ c. omega arith)
+    (λ c. omega arith)
+    (λ c. omega arith)
+    (λ c. omega arith)
     loop-again
     returns-2)

@@ -46,12 +46,6 @@ returns c =
     let wrong = sym (called .read-cell .ensures .0) ∙ not-true _ (c .if1 .taken) in
     (sym (every-fails (start .args .n) (at-loop .loop .c) _ (in-loop .loop-test .taken) wrong), (λ h. absurd (false≢true h), λ h. absurd (false≢true h)))
 
-add-c : tie.Need-add-c Inv-loop μ-loop
-add-c c = omega arith
-
-loop-less : tie.Need-loop-less Inv-loop μ-loop
-loop-less c = omega arith
-
 loop-again : tie.Need-loop-again Inv-loop μ-loop
 loop-again c =
     let called = c .before in
@@ -96,7 +90,7 @@ read-cells-spec =
     loop-holds
     read-cell-requires
     returns
-    add-c
-    loop-less
+    (λ c. omega arith)
+    (λ c. omega arith)
     loop-again
     returns-2)

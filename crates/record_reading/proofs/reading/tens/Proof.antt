@@ -6,12 +6,6 @@ use borrow.Author.Needs.{needs}
 use Rattle.record_reading.proofs.reading.tens.Statement.{statement}
 use Rattle.record_reading.proofs.reading.tens.Tie as tie
 
-cast-result : tie.Need-cast-result
-cast-result c = search needs
-
-add-result : tie.Need-add-result
-add-result c = search needs
-
 returns : tie.Need-returns
 returns c = sym (glyph-zero _ _ (omega arith))
 
@@ -19,4 +13,4 @@ returns-2 : tie.Need-returns-2
 returns-2 c = sym (glyph-digit _ _ (λ e. omega arith))
 
 pub tens-spec : {M : Type 1} → statement M
-tens-spec = tie.close (tie.spec cast-result add-result returns returns-2)
+tens-spec = tie.close (tie.spec (λ c. search needs) (λ c. search needs) returns returns-2)

@@ -7,15 +7,6 @@ use Rattle.river.specs.Rivers.{freshAnswer}
 use Rattle.river.proofs.River.fresh.Statement.{statement}
 use Rattle.river.proofs.River.fresh.Tie as tie
 
-cells-fit-requires : tie.Need-cells-fit-requires
-cells-fit-requires c κs = search needs
-
-zero-river-requires : tie.Need-zero-river-requires
-zero-river-requires c κs = search needs
-
-zero-river-requires-2 : tie.Need-zero-river-requires-2
-zero-river-requires-2 c κs = search needs
-
 -- Accepted.
 returns : tie.Need-returns
 unfolding freshAnswer firstHolding
@@ -29,4 +20,4 @@ returns-2 c = rw (sym (c .before .before .cells-fit .ensures) ∙ c .before .if1
 pub fresh-spec : {M : Type 1} → statement M
 fresh-spec =
     tie.close
-    (tie.spec cells-fit-requires zero-river-requires zero-river-requires-2 returns returns-2)
+    (tie.spec (λ c κs. search needs) (λ c κs. search needs) (λ c κs. search needs) returns returns-2)

@@ -6,15 +6,6 @@ use Rattle.river.specs.Rivers.{amountFits}
 use Rattle.river.proofs.amounts.amount_fits.Statement.{statement}
 use Rattle.river.proofs.amounts.amount_fits.Tie as tie
 
-lowest-requires : tie.Need-lowest-requires
-lowest-requires c κs = search needs
-
-highest-requires : tie.Need-highest-requires
-highest-requires c κs = search needs
-
-both-requires : tie.Need-both-requires
-both-requires c κs = search needs
-
 returns : tie.Need-returns
 unfolding amountFits
 returns c =
@@ -32,4 +23,4 @@ returns c =
 
 pub amount-fits-spec : {M : Type 1} → statement M
 amount-fits-spec =
-    tie.close (tie.spec lowest-requires highest-requires both-requires returns)
+    tie.close (tie.spec (λ c κs. search needs) (λ c κs. search needs) (λ c κs. search needs) returns)

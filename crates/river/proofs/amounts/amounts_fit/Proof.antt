@@ -5,15 +5,6 @@ use Rattle.river.proofs.Rivers.{amounts-parts}
 use Rattle.river.proofs.amounts.amounts_fit.Statement.{statement}
 use Rattle.river.proofs.amounts.amounts_fit.Tie as tie
 
-first-cells-fit-requires : tie.Need-first-cells-fit-requires
-first-cells-fit-requires c κs = search needs
-
-mul-no-amount-from : tie.Need-mul-no-amount-from
-mul-no-amount-from c = search needs
-
-no-amount-from-requires : tie.Need-no-amount-from-requires
-no-amount-from-requires c κs = search needs
-
 returns : tie.Need-returns
 returns c =
     let at-cells = c .before .before in
@@ -38,8 +29,8 @@ pub amounts-fit-spec : {M : Type 1} → statement M
 amounts-fit-spec =
     tie.close
     (tie.spec
-    first-cells-fit-requires
-    mul-no-amount-from
-    no-amount-from-requires
+    (λ c κs. search needs)
+    (λ c. search needs)
+    (λ c κs. search needs)
     returns
     returns-2)

@@ -7,18 +7,12 @@ use Rattle.river.proofs.Runs.{run-every, run-decides}
 use Rattle.river.proofs.amounts.cell_fits.Statement.{statement}
 use Rattle.river.proofs.amounts.cell_fits.Tie as tie
 
-runs-fit-requires : tie.Need-runs-fit-requires
-runs-fit-requires c κs = search needs
-
 -- The runs pass.
 returns : tie.Need-returns
 returns c =
     let at-runs = c .before in
     let args = at-runs .before .args in
     sym (run-every (args .amounts .now) (args .start) substances (at-runs .runs-fit .ensures (c .if1 .taken)))
-
-each-fits-requires : tie.Need-each-fits-requires
-each-fits-requires c κs = search needs
 
 returns-2 : tie.Need-returns-2
 returns-2 c =
@@ -27,4 +21,4 @@ returns-2 c =
     run-decides (args .amounts .now) (args .start) substances (tested .result) (tested .ensures .0) (tested .ensures .1)
 
 pub cell-fits-spec : {M : Type 1} → statement M
-cell-fits-spec = tie.close (tie.spec runs-fit-requires returns each-fits-requires returns-2)
+cell-fits-spec = tie.close (tie.spec (λ c κs. search needs) returns (λ c κs. search needs) returns-2)

@@ -23,24 +23,6 @@ loop-holds : tie.Need-loop-holds Inv-loop μ-loop
 loop-holds c =
     (omega arith, omega arith, run-none (c .args .amounts .now) (c .args .start) (c .args .first))
 
-add-amount-fits : tie.Need-add-amount-fits Inv-loop μ-loop
-add-amount-fits c = omega arith
-
-mul-amount-fits : tie.Need-mul-amount-fits Inv-loop μ-loop
-mul-amount-fits c = omega arith
-
-element-copy-out-amount-fits : tie.Need-element-copy-out-amount-fits Inv-loop μ-loop
-element-copy-out-amount-fits c = omega arith
-
-amount-fits-requires : tie.Need-amount-fits-requires Inv-loop μ-loop
-amount-fits-requires c κs = omega arith
-
-add-s : tie.Need-add-s Inv-loop μ-loop
-add-s c = omega arith
-
-loop-less : tie.Need-loop-less Inv-loop μ-loop
-loop-less c = omega arith
-
 -- The machine keeps the amount that it has read.
 kept-is : (c : tie.After-amount-fits-arg Inv-loop μ-loop) →
     let at-loop = c .before .before in
@@ -88,12 +70,12 @@ each-fits-spec =
     Inv-loop
     μ-loop
     loop-holds
-    add-amount-fits
-    mul-amount-fits
-    element-copy-out-amount-fits
-    amount-fits-requires
-    add-s
-    loop-less
+    (λ c. omega arith)
+    (λ c. omega arith)
+    (λ c. omega arith)
+    (λ c κs. omega arith)
+    (λ c. omega arith)
+    (λ c. omega arith)
     loop-again
     returns
     returns-2)

@@ -5,12 +5,6 @@ use Rattle.river.proofs.Bounds.{highest-kind}
 use Rattle.river.proofs.amounts.highest.Statement.{statement}
 use Rattle.river.proofs.amounts.highest.Tie as tie
 
-is-organic-requires : tie.Need-is-organic-requires
-is-organic-requires c κs = search needs
-
-is-net-change-requires : tie.Need-is-net-change-requires
-is-net-change-requires c κs = search needs
-
 -- An organic.
 returns : tie.Need-returns
 returns c =
@@ -43,4 +37,4 @@ returns-3 c =
 
 pub highest-spec : {M : Type 1} → statement M
 highest-spec =
-    tie.close (tie.spec is-organic-requires is-net-change-requires returns returns-2 returns-3)
+    tie.close (tie.spec (λ c κs. search needs) (λ c κs. search needs) returns returns-2 returns-3)

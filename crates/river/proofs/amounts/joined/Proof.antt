@@ -20,21 +20,6 @@ abbrev μ-loop : tie.MeasureT-loop
 loop-holds : tie.Need-loop-holds Inv-loop μ-loop
 loop-holds c = (omega arith, covers-none (c .args .amounts .now) (c .args .start) (toZ w64 0))
 
-add-bits : tie.Need-add-bits Inv-loop μ-loop
-add-bits c = omega arith
-
-mul-bits : tie.Need-mul-bits Inv-loop μ-loop
-mul-bits c = omega arith
-
-element-copy-out-bits : tie.Need-element-copy-out-bits Inv-loop μ-loop
-element-copy-out-bits c = omega arith
-
-add-i : tie.Need-add-i Inv-loop μ-loop
-add-i c = omega arith
-
-loop-less : tie.Need-loop-less Inv-loop μ-loop
-loop-less c = omega arith
-
 loop-again : tie.Need-loop-again Inv-loop μ-loop
 loop-again c =
     let at-loop = c .before .before in
@@ -57,10 +42,10 @@ joined-spec =
     Inv-loop
     μ-loop
     loop-holds
-    add-bits
-    mul-bits
-    element-copy-out-bits
-    add-i
-    loop-less
+    (λ c. omega arith)
+    (λ c. omega arith)
+    (λ c. omega arith)
+    (λ c. omega arith)
+    (λ c. omega arith)
     loop-again
     returns)

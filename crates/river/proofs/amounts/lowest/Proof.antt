@@ -5,12 +5,6 @@ use Rattle.river.proofs.Bounds.{lowest-kind}
 use Rattle.river.proofs.amounts.lowest.Statement.{statement}
 use Rattle.river.proofs.amounts.lowest.Tie as tie
 
-is-net-change-requires : tie.Need-is-net-change-requires
-is-net-change-requires c κs = search needs
-
-sub-result : tie.Need-sub-result
-sub-result c = search needs
-
 returns : tie.Need-returns
 returns c =
     let at-start = c .before .before in
@@ -22,4 +16,4 @@ returns-2 c =
     rw (lowest-kind (at-start .args .s) (at-start .pre), sym (c .before .is-net-change .ensures) ∙ c .if1 .left)
 
 pub lowest-spec : {M : Type 1} → statement M
-lowest-spec = tie.close (tie.spec is-net-change-requires sub-result returns returns-2)
+lowest-spec = tie.close (tie.spec (λ c κs. search needs) (λ c. search needs) returns returns-2)

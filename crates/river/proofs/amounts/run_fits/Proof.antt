@@ -7,18 +7,6 @@ use Rattle.river.proofs.Runs.{run-covered}
 use Rattle.river.proofs.amounts.run_fits.Statement.{statement}
 use Rattle.river.proofs.amounts.run_fits.Tie as tie
 
-add-joined : tie.Need-add-joined
-add-joined c = search needs
-
-sub-joined : tie.Need-sub-joined
-sub-joined c = search needs
-
-joined-requires : tie.Need-joined-requires
-joined-requires c κs = search needs
-
-amount-fits-requires : tie.Need-amount-fits-requires
-amount-fits-requires c κs = search needs
-
 returns : tie.Need-returns
 returns c =
     let at-joined = c .before in
@@ -32,4 +20,4 @@ returns c =
 
 pub run-fits-spec : {M : Type 1} → statement M
 run-fits-spec =
-    tie.close (tie.spec add-joined sub-joined joined-requires amount-fits-requires returns)
+    tie.close (tie.spec (λ c. search needs) (λ c. search needs) (λ c κs. search needs) (λ c κs. search needs) returns)

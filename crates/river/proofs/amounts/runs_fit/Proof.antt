@@ -25,9 +25,6 @@ run-fits-requires-2 c κs = ((omega arith, omega arith, omega arith), same-bound
 returns-2 : tie.Need-returns-2
 returns-2 c e = absurd (true≢false (sym e))
 
-each-fits-requires : tie.Need-each-fits-requires
-each-fits-requires c κs = search needs
-
 returns-3 : tie.Need-returns-3
 returns-3 c e = absurd (true≢false (sym e))
 
@@ -37,9 +34,6 @@ run-fits-requires-3 c κs = ((omega arith, omega arith, omega arith), same-bound
 
 returns-4 : tie.Need-returns-4
 returns-4 c e = absurd (true≢false (sym e))
-
-each-fits-requires-2 : tie.Need-each-fits-requires-2
-each-fits-requires-2 c κs = search needs
 
 returns-5 : tie.Need-returns-5
 returns-5 c e =
@@ -68,9 +62,9 @@ runs-fit-spec =
     returns
     run-fits-requires-2
     returns-2
-    each-fits-requires
+    (λ c κs. search needs)
     returns-3
     run-fits-requires-3
     returns-4
-    each-fits-requires-2
+    (λ c κs. search needs)
     returns-5)

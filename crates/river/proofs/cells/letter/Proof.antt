@@ -9,18 +9,6 @@ use Rattle.river.specs.Cells.{letterBy}
 use Rattle.river.proofs.cells.letter.Statement.{statement}
 use Rattle.river.proofs.cells.letter.Tie as tie
 
-cast-level : tie.Need-cast-level
-cast-level c = search needs
-
-level-requires : tie.Need-level-requires
-level-requires c κs = search needs
-
-cast-level-2 : tie.Need-cast-level-2
-cast-level-2 c = search needs
-
-level-requires-2 : tie.Need-level-requires-2
-level-requires-2 c κs = search needs
-
 oxygen-level : (c : tie.After-level) → c .level .result ≡ levelOf o2 (c .before .args .oxygen)
 unfolding levelOf
 oxygen-level c = rw (toZ-ofZ (c .before .fits .oxygen)) at (c .level .ensures)
@@ -61,4 +49,4 @@ returns-3 c =
 pub letter-spec : {M : Type 1} → statement M
 letter-spec =
     tie.close
-    (tie.spec cast-level level-requires cast-level-2 level-requires-2 returns returns-2 returns-3)
+    (tie.spec (λ c. search needs) (λ c κs. search needs) (λ c. search needs) (λ c κs. search needs) returns returns-2 returns-3)

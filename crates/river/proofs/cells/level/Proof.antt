@@ -8,11 +8,5 @@ use Rattle.river.proofs.cells.level.Tie as tie
 cast-result : tie.Need-cast-result
 cast-result c = rw (toZ-ofZ (c .fits .amount)) (yes-nonNeg (c .pre .0), fits-natAbs tt (c .fits .amount))
 
-div-result : tie.Need-div-result
-div-result c = search needs
-
-returns : tie.Need-returns
-returns c = search needs
-
 pub level-spec : {M : Type 1} → statement M
-level-spec = tie.close (tie.spec cast-result div-result returns)
+level-spec = tie.close (tie.spec cast-result (λ c. search needs) (λ c. search needs))

@@ -5,15 +5,6 @@ use Rattle.river.proofs.Rivers.{carries-parts}
 use Rattle.river.proofs.check.carries_fit.Statement.{statement}
 use Rattle.river.proofs.check.carries_fit.Tie as tie
 
-mul-end : tie.Need-mul-end
-mul-end c = search needs
-
-carries-below-batch-requires : tie.Need-carries-below-batch-requires
-carries-below-batch-requires c κs = search needs
-
-no-carry-from-requires : tie.Need-no-carry-from-requires
-no-carry-from-requires c κs = search needs
-
 returns : tie.Need-returns
 returns c =
     let at-below = c .before .before in
@@ -37,4 +28,4 @@ returns-2 c =
 pub carries-fit-spec : {M : Type 1} → statement M
 carries-fit-spec =
     tie.close
-    (tie.spec mul-end carries-below-batch-requires no-carry-from-requires returns returns-2)
+    (tie.spec (λ c. search needs) (λ c κs. search needs) (λ c κs. search needs) returns returns-2)

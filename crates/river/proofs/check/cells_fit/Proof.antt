@@ -5,9 +5,6 @@ use Rattle.river.specs.Rivers.{cellsFit}
 use Rattle.river.proofs.check.cells_fit.Statement.{statement}
 use Rattle.river.proofs.check.cells_fit.Tie as tie
 
-cast-result : tie.Need-cast-result
-cast-result c = search needs
-
 returns : tie.Need-returns
 unfolding cellsFit
 returns c = rw (le-leb _ _ (c .if1 .taken))
@@ -17,4 +14,4 @@ unfolding cellsFit
 returns-2 c = rw (lt-leb _ _ (c .if1 .left))
 
 pub cells-fit-spec : {M : Type 1} → statement M
-cells-fit-spec = tie.close (tie.spec cast-result returns returns-2)
+cells-fit-spec = tie.close (tie.spec (λ c. search needs) returns returns-2)

@@ -20,26 +20,8 @@ Inv-loop start carries count i₀ i =
 abbrev μ-loop : tie.MeasureT-loop
 μ-loop start carries count i₀ i = mostCells * processes - start - i
 
-sub-count : tie.Need-sub-count Inv-loop μ-loop
-sub-count c = omega arith
-
 loop-holds : tie.Need-loop-holds Inv-loop μ-loop
 loop-holds c = (omega arith, every-none _)
-
-add-if1 : tie.Need-add-if1 Inv-loop μ-loop
-add-if1 c = omega arith
-
-mul-if1 : tie.Need-mul-if1 Inv-loop μ-loop
-mul-if1 c = omega arith
-
-element-copy-out-if1 : tie.Need-element-copy-out-if1 Inv-loop μ-loop
-element-copy-out-if1 c = omega arith
-
-add-i : tie.Need-add-i Inv-loop μ-loop
-add-i c = omega arith
-
-loop-less : tie.Need-loop-less Inv-loop μ-loop
-loop-less c = omega arith
 
 loop-again : tie.Need-loop-again Inv-loop μ-loop
 loop-again c =
@@ -65,13 +47,13 @@ no-carry-from-spec =
     (tie.spec
     Inv-loop
     μ-loop
-    sub-count
+    (λ c. omega arith)
     loop-holds
-    add-if1
-    mul-if1
-    element-copy-out-if1
-    add-i
-    loop-less
+    (λ c. omega arith)
+    (λ c. omega arith)
+    (λ c. omega arith)
+    (λ c. omega arith)
+    (λ c. omega arith)
     loop-again
     returns
     returns-2)

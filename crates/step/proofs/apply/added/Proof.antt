@@ -60,12 +60,6 @@ add-total c =
     let bound = total-bound whole (start .args .at) entries (start .args .s) (start .pre .3) (start .pre .4) (start .pre .1) (start .pre .2) (start .args .start) (start .pre .0) (p + 1) (omega arith) in
     rw (term, at-loop .loop .inv .2, start-kept, more) (fits-abs _ (omega (arith, bound)))
 
-add-p : tie.Need-add-p Inv-loop μ-loop
-add-p c = omega arith
-
-loop-less : tie.Need-loop-less Inv-loop μ-loop
-loop-less c = omega arith
-
 loop-again : tie.Need-loop-again Inv-loop μ-loop
 loop-again c =
     let at-loop = c .before .before in
@@ -101,7 +95,7 @@ added-spec =
     loop-holds
     added-by-requires
     add-total
-    add-p
-    loop-less
+    (λ c. omega arith)
+    (λ c. omega arith)
     loop-again
     returns)

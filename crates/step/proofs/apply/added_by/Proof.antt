@@ -16,27 +16,6 @@ use borrow.Author.Needs.{needs}
 use Rattle.step.proofs.apply.added_by.Statement.{statement}
 use Rattle.step.proofs.apply.added_by.Tie as tie
 
-add-result : tie.Need-add-result
-add-result c = search needs
-
-mul-result : tie.Need-mul-result
-mul-result c = search needs
-
-element-copy-out-result : tie.Need-element-copy-out-result
-element-copy-out-result c = search needs
-
-mul-result-2 : tie.Need-mul-result-2
-mul-result-2 c = search needs
-
-add-result-2 : tie.Need-add-result-2
-add-result-2 c = search needs
-
-mul-result-3 : tie.Need-mul-result-3
-mul-result-3 c = search needs
-
-element-copy-out-result-2 : tie.Need-element-copy-out-result-2
-element-copy-out-result-2 c = search needs
-
 mul-result-4 : tie.Need-mul-result-4
 mul-result-4 c =
     let start = c .before .before .before in
@@ -66,13 +45,13 @@ pub added-by-spec : {M : Type 1} → statement M
 added-by-spec =
     tie.close
     (tie.spec
-    add-result
-    mul-result
-    element-copy-out-result
-    mul-result-2
-    add-result-2
-    mul-result-3
-    element-copy-out-result-2
+    (λ c. search needs)
+    (λ c. search needs)
+    (λ c. search needs)
+    (λ c. search needs)
+    (λ c. search needs)
+    (λ c. search needs)
+    (λ c. search needs)
     mul-result-4
     returns
     returns-2)

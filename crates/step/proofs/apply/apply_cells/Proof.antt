@@ -27,12 +27,6 @@ apply-cell-requires c κs =
     let start = at-loop .before in
     (omega arith, start .pre .1, start .pre .2, start .pre .3)
 
-add-c : tie.Need-add-c Inv-loop μ-loop
-add-c c = omega arith
-
-loop-less : tie.Need-loop-less Inv-loop μ-loop
-loop-less c = omega arith
-
 loop-again : tie.Need-loop-again Inv-loop μ-loop
 loop-again c =
     let entered = c .before .before in
@@ -58,4 +52,4 @@ returns c =
 pub apply-cells-spec : {M : Type 1} → statement M
 apply-cells-spec =
     tie.close
-    (tie.spec Inv-loop μ-loop loop-holds apply-cell-requires add-c loop-less loop-again returns)
+    (tie.spec Inv-loop μ-loop loop-holds apply-cell-requires (λ c. omega arith) (λ c. omega arith) loop-again returns)

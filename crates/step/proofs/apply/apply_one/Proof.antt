@@ -13,33 +13,12 @@ use borrow.Author.Needs.{needs}
 use Rattle.step.proofs.apply.apply_one.Statement.{statement}
 use Rattle.step.proofs.apply.apply_one.Tie as tie
 
-mul-k : tie.Need-mul-k
-mul-k c = search needs
-
-add-k : tie.Need-add-k
-add-k c = search needs
-
-mul-added : tie.Need-mul-added
-mul-added c = search needs
-
-element-copy-out-added : tie.Need-element-copy-out-added
-element-copy-out-added c = search needs
-
-mul-added-2 : tie.Need-mul-added-2
-mul-added-2 c = search needs
-
 added-requires : tie.Need-added-requires
 added-requires c κs =
     let start = c .before in
     let k = start .args .c * substances + start .args .s in
     let pre = start .pre in
     (rw (kept-is (getD (start .args .amounts .now) k (pos 0)) (c .added-arg .given)) (pre .1 .most k (omega arith)), omega arith, pre .4, pre .2, pre .3, pre .5)
-
-mul-t15 : tie.Need-mul-t15
-mul-t15 c = search needs
-
-element-set-from-out : tie.Need-element-set-from-out
-element-set-from-out c = search needs
 
 returns : tie.Need-returns
 returns c =
@@ -54,12 +33,12 @@ pub apply-one-spec : {M : Type 1} → statement M
 apply-one-spec =
     tie.close
     (tie.spec
-    mul-k
-    add-k
-    mul-added
-    element-copy-out-added
-    mul-added-2
+    (λ c. search needs)
+    (λ c. search needs)
+    (λ c. search needs)
+    (λ c. search needs)
+    (λ c. search needs)
     added-requires
-    mul-t15
-    element-set-from-out
+    (λ c. search needs)
+    (λ c. search needs)
     returns)

@@ -23,18 +23,6 @@ abbrev μ-loop : tie.MeasureT-loop
 loop-holds : tie.Need-loop-holds Inv-loop μ-loop
 loop-holds c = (omega arith, every-none _)
 
-mul-cell-batches-fit : tie.Need-mul-cell-batches-fit Inv-loop μ-loop
-mul-cell-batches-fit c = omega arith
-
-cell-batches-fit-requires : tie.Need-cell-batches-fit-requires Inv-loop μ-loop
-cell-batches-fit-requires c κs = omega arith
-
-add-c : tie.Need-add-c Inv-loop μ-loop
-add-c c = omega arith
-
-loop-less : tie.Need-loop-less Inv-loop μ-loop
-loop-less c = omega arith
-
 loop-again : tie.Need-loop-again Inv-loop μ-loop
 loop-again c =
     let at-loop = c .before .before .before in
@@ -59,10 +47,10 @@ batches-fit-spec =
     Inv-loop
     μ-loop
     loop-holds
-    mul-cell-batches-fit
-    cell-batches-fit-requires
-    add-c
-    loop-less
+    (λ c. omega arith)
+    (λ c κs. omega arith)
+    (λ c. omega arith)
+    (λ c. omega arith)
     loop-again
     returns
     returns-2)

@@ -7,15 +7,6 @@ use Rattle.stoichiometry.specs.Sets.{publishedAnswer}
 use Rattle.stoichiometry.proofs.Set.published.Statement.{statement}
 use Rattle.stoichiometry.proofs.Set.published.Tie as tie
 
-constants-fit-requires : tie.Need-constants-fit-requires
-constants-fit-requires c κs = search needs
-
-published-set-requires : tie.Need-published-set-requires
-published-set-requires c κs = search needs
-
-zero-set-requires : tie.Need-zero-set-requires
-zero-set-requires c κs = search needs
-
 -- Accepted.
 returns : tie.Need-returns
 unfolding publishedAnswer firstHolding
@@ -29,4 +20,4 @@ returns-2 c = rw (sym (c .before .before .constants-fit .ensures) ∙ c .before 
 pub published-spec : {M : Type 1} → statement M
 published-spec =
     tie.close
-    (tie.spec constants-fit-requires published-set-requires zero-set-requires returns returns-2)
+    (tie.spec (λ c κs. search needs) (λ c κs. search needs) (λ c κs. search needs) returns returns-2)

@@ -5,15 +5,6 @@ use Rattle.stoichiometry.specs.Parameters.{figuresWrong}
 use Rattle.stoichiometry.proofs.checks.figures_wrong.Statement.{statement}
 use Rattle.stoichiometry.proofs.checks.figures_wrong.Tie as tie
 
-yields-fit-requires : tie.Need-yields-fit-requires
-yields-fit-requires c κs = search needs
-
-constants-fit-requires : tie.Need-constants-fit-requires
-constants-fit-requires c κs = search needs
-
-both-requires : tie.Need-both-requires
-both-requires c κs = search needs
-
 returns : tie.Need-returns
 unfolding figuresWrong
 returns c =
@@ -23,4 +14,4 @@ returns c =
 
 pub figures-wrong-spec : {M : Type 1} → statement M
 figures-wrong-spec =
-    tie.close (tie.spec yields-fit-requires constants-fit-requires both-requires returns)
+    tie.close (tie.spec (λ c κs. search needs) (λ c κs. search needs) (λ c κs. search needs) returns)

@@ -10,51 +10,6 @@ use Rattle.stoichiometry.specs.Parameters.{addsUp, fractionsWrong}
 use Rattle.stoichiometry.proofs.checks.fractions_wrong.Statement.{statement}
 use Rattle.stoichiometry.proofs.checks.fractions_wrong.Tie as tie
 
-adds-up-requires : tie.Need-adds-up-requires
-adds-up-requires c κs = search needs
-
-adds-up-requires-2 : tie.Need-adds-up-requires-2
-adds-up-requires-2 c κs = search needs
-
-both-requires : tie.Need-both-requires
-both-requires c κs = search needs
-
-adds-up-requires-3 : tie.Need-adds-up-requires-3
-adds-up-requires-3 c κs = search needs
-
-adds-up-requires-4 : tie.Need-adds-up-requires-4
-adds-up-requires-4 c κs = search needs
-
-adds-up-requires-5 : tie.Need-adds-up-requires-5
-adds-up-requires-5 c κs = search needs
-
-both-requires-2 : tie.Need-both-requires-2
-both-requires-2 c κs = search needs
-
-both-requires-3 : tie.Need-both-requires-3
-both-requires-3 c κs = search needs
-
-adds-up-requires-6 : tie.Need-adds-up-requires-6
-adds-up-requires-6 c κs = search needs
-
-adds-up-requires-7 : tie.Need-adds-up-requires-7
-adds-up-requires-7 c κs = search needs
-
-adds-up-requires-8 : tie.Need-adds-up-requires-8
-adds-up-requires-8 c κs = search needs
-
-both-requires-4 : tie.Need-both-requires-4
-both-requires-4 c κs = search needs
-
-both-requires-5 : tie.Need-both-requires-5
-both-requires-5 c κs = search needs
-
-both-requires-6 : tie.Need-both-requires-6
-both-requires-6 c κs = search needs
-
-both-requires-7 : tie.Need-both-requires-7
-both-requires-7 c κs = search needs
-
 -- Check 1, grouped as the code groups the organics.
 grouped : (set : Set)
     → let ok : Organic → Bool = λ o. addsUp (fractionsOf set o) in
@@ -100,19 +55,19 @@ pub fractions-wrong-spec : {M : Type 1} → statement M
 fractions-wrong-spec =
     tie.close
     (tie.spec
-    adds-up-requires
-    adds-up-requires-2
-    both-requires
-    adds-up-requires-3
-    adds-up-requires-4
-    adds-up-requires-5
-    both-requires-2
-    both-requires-3
-    adds-up-requires-6
-    adds-up-requires-7
-    adds-up-requires-8
-    both-requires-4
-    both-requires-5
-    both-requires-6
-    both-requires-7
+    (λ c κs. search needs)
+    (λ c κs. search needs)
+    (λ c κs. search needs)
+    (λ c κs. search needs)
+    (λ c κs. search needs)
+    (λ c κs. search needs)
+    (λ c κs. search needs)
+    (λ c κs. search needs)
+    (λ c κs. search needs)
+    (λ c κs. search needs)
+    (λ c κs. search needs)
+    (λ c κs. search needs)
+    (λ c κs. search needs)
+    (λ c κs. search needs)
+    (λ c κs. search needs)
     returns)

@@ -4,30 +4,6 @@ use borrow.Author.Needs.{needs}
 use Rattle.stoichiometry.proofs.figures.published_set.Statement.{statement}
 use Rattle.stoichiometry.proofs.figures.published_set.Tie as tie
 
-fractions-of-requires : tie.Need-fractions-of-requires
-fractions-of-requires c κs = search needs
-
-fractions-of-requires-2 : tie.Need-fractions-of-requires-2
-fractions-of-requires-2 c κs = search needs
-
-fractions-of-requires-3 : tie.Need-fractions-of-requires-3
-fractions-of-requires-3 c κs = search needs
-
-fractions-of-requires-4 : tie.Need-fractions-of-requires-4
-fractions-of-requires-4 c κs = search needs
-
-fractions-of-requires-5 : tie.Need-fractions-of-requires-5
-fractions-of-requires-5 c κs = search needs
-
-fractions-of-requires-6 : tie.Need-fractions-of-requires-6
-fractions-of-requires-6 c κs = search needs
-
-fractions-of-requires-7 : tie.Need-fractions-of-requires-7
-fractions-of-requires-7 c κs = search needs
-
-fractions-of-requires-8 : tie.Need-fractions-of-requires-8
-fractions-of-requires-8 c κs = search needs
-
 returns : tie.Need-returns
 returns c =
     let at-xs = c .before in
@@ -52,12 +28,12 @@ pub published-set-spec : {M : Type 1} → statement M
 published-set-spec =
     tie.close
     (tie.spec
-    fractions-of-requires
-    fractions-of-requires-2
-    fractions-of-requires-3
-    fractions-of-requires-4
-    fractions-of-requires-5
-    fractions-of-requires-6
-    fractions-of-requires-7
-    fractions-of-requires-8
+    (λ c κs. search needs)
+    (λ c κs. search needs)
+    (λ c κs. search needs)
+    (λ c κs. search needs)
+    (λ c κs. search needs)
+    (λ c κs. search needs)
+    (λ c κs. search needs)
+    (λ c κs. search needs)
     returns)

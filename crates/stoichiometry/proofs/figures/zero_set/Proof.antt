@@ -6,17 +6,8 @@ use Rattle.stoichiometry.proofs.figures.zero_set.Tie as tie
 use Rattle.stoichiometry.proofs.HalfSaturations.all.Reads as HalfSaturations-all-reads
 use Rattle.stoichiometry.proofs.RateConstants.all.Reads as RateConstants-all-reads
 
-fractions-of-requires : tie.Need-fractions-of-requires
-fractions-of-requires c κs = search needs
-
-all-requires : tie.Need-all-requires
-all-requires c κs = search needs
-
-all-requires-2 : tie.Need-all-requires-2
-all-requires-2 c κs = search needs
-
 returns : tie.Need-returns
 returns c = rw (c .before .before .fractions-of .ensures, c .before .all .ensures, c .all2 .ensures)
 
 pub zero-set-spec : {M : Type 1} → statement M
-zero-set-spec = tie.close (tie.spec fractions-of-requires all-requires all-requires-2 returns)
+zero-set-spec = tie.close (tie.spec (λ c κs. search needs) (λ c κs. search needs) (λ c κs. search needs) returns)

@@ -11,12 +11,6 @@ use borrow.Author.Needs.{needs}
 use Rattle.text.proofs.digits.write_below_10.Statement.{statement}
 use Rattle.text.proofs.digits.write_below_10.Tie as tie
 
-write-mark-requires : tie.Need-write-mark-requires
-write-mark-requires c κs = search needs
-
-same-length : tie.Need-same-length
-same-length c = search needs
-
 returns : tie.Need-returns
 returns c =
     let at-mark = c .before .before in
@@ -29,21 +23,6 @@ returns-2 : tie.Need-returns-2
 returns-2 c =
     let args = c .before .before .before .args in
     sym (columns-end (args .out .now) (args .at) (args .width) (args .mark) (args .n) (omega arith))
-
-sub-before : tie.Need-sub-before
-sub-before c = search needs
-
-add-last : tie.Need-add-last
-add-last c = search needs
-
-cast-out : tie.Need-cast-out
-cast-out c = search needs
-
-add-out : tie.Need-add-out
-add-out c = search needs
-
-slice-write-out : tie.Need-slice-write-out
-slice-write-out c = search needs
 
 write-mark-requires-2 : tie.Need-write-mark-requires-2
 write-mark-requires-2 c κs =
@@ -74,15 +53,15 @@ pub write-below-10-spec : {M : Type 1} → statement M
 write-below-10-spec =
     tie.close
     (tie.spec
-    write-mark-requires
-    same-length
+    (λ c κs. search needs)
+    (λ c. search needs)
     returns
     returns-2
-    sub-before
-    add-last
-    cast-out
-    add-out
-    slice-write-out
+    (λ c. search needs)
+    (λ c. search needs)
+    (λ c. search needs)
+    (λ c. search needs)
+    (λ c. search needs)
     write-mark-requires-2
     same-length-2
     returns-3)

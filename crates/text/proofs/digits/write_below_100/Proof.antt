@@ -12,30 +12,6 @@ use borrow.Author.Needs.{needs}
 use Rattle.text.proofs.digits.write_below_100.Statement.{statement}
 use Rattle.text.proofs.digits.write_below_100.Tie as tie
 
-write-below-10-requires : tie.Need-write-below-10-requires
-write-below-10-requires c κs = search needs
-
-same-length : tie.Need-same-length
-same-length c = search needs
-
-returns : tie.Need-returns
-returns c = search needs
-
-write-singles-requires : tie.Need-write-singles-requires
-write-singles-requires c κs = search needs
-
-same-length-2 : tie.Need-same-length-2
-same-length-2 c = search needs
-
-returns-2 : tie.Need-returns-2
-returns-2 c = search needs
-
-add-write-pair : tie.Need-add-write-pair
-add-write-pair c = search needs
-
-write-pair-requires : tie.Need-write-pair-requires
-write-pair-requires c κs = search needs
-
 write-mark-requires : tie.Need-write-mark-requires
 write-mark-requires c κs =
     let at-pair = c .before .before .before in
@@ -48,9 +24,6 @@ write-mark-requires c κs =
           (blank-put (args .out .now) (args .at) (args .width) before (args .at + before) (pair (args .n)) (start .pre .1)
           (omega arith) (omega arith) (omega arith)),
     )
-
-same-length-3 : tie.Need-same-length-3
-same-length-3 c = search needs
 
 returns-3 : tie.Need-returns-3
 returns-3 c =
@@ -68,14 +41,14 @@ pub write-below-100-spec : {M : Type 1} → statement M
 write-below-100-spec =
     tie.close
     (tie.spec
-    write-below-10-requires
-    same-length
-    returns
-    write-singles-requires
-    same-length-2
-    returns-2
-    add-write-pair
-    write-pair-requires
+    (λ c κs. search needs)
+    (λ c. search needs)
+    (λ c. search needs)
+    (λ c κs. search needs)
+    (λ c. search needs)
+    (λ c. search needs)
+    (λ c. search needs)
+    (λ c κs. search needs)
     write-mark-requires
-    same-length-3
+    (λ c. search needs)
     returns-3)

@@ -12,36 +12,6 @@ use borrow.Author.Needs.{needs}
 use Rattle.text.proofs.digits.write_below_10000.Statement.{statement}
 use Rattle.text.proofs.digits.write_below_10000.Tie as tie
 
-write-below-100-requires : tie.Need-write-below-100-requires
-write-below-100-requires c κs = search needs
-
-same-length : tie.Need-same-length
-same-length c = search needs
-
-returns : tie.Need-returns
-returns c = search needs
-
-write-singles-requires : tie.Need-write-singles-requires
-write-singles-requires c κs = search needs
-
-same-length-2 : tie.Need-same-length-2
-same-length-2 c = search needs
-
-returns-2 : tie.Need-returns-2
-returns-2 c = search needs
-
-add-write-pair : tie.Need-add-write-pair
-add-write-pair c = search needs
-
-mul-write-pair : tie.Need-mul-write-pair
-mul-write-pair c = search needs
-
-sub-write-pair : tie.Need-sub-write-pair
-sub-write-pair c = search needs
-
-write-pair-requires : tie.Need-write-pair-requires
-write-pair-requires c κs = search needs
-
 write-below-100-requires-2 : tie.Need-write-below-100-requires-2
 write-below-100-requires-2 c κs =
     let at-pair = c .before .before .before in
@@ -55,9 +25,6 @@ write-below-100-requires-2 c κs =
           (blank-put (args .out .now) (args .at) (args .width) before (args .at + before) (pair (n - n / 100 * 100))
           (start .pre .1) (omega arith) (omega arith) (omega arith)),
     )
-
-same-length-3 : tie.Need-same-length-3
-same-length-3 c = search needs
 
 returns-3 : tie.Need-returns-3
 returns-3 c =
@@ -76,16 +43,16 @@ pub write-below-10000-spec : {M : Type 1} → statement M
 write-below-10000-spec =
     tie.close
     (tie.spec
-    write-below-100-requires
-    same-length
-    returns
-    write-singles-requires
-    same-length-2
-    returns-2
-    add-write-pair
-    mul-write-pair
-    sub-write-pair
-    write-pair-requires
+    (λ c κs. search needs)
+    (λ c. search needs)
+    (λ c. search needs)
+    (λ c κs. search needs)
+    (λ c. search needs)
+    (λ c. search needs)
+    (λ c. search needs)
+    (λ c. search needs)
+    (λ c. search needs)
+    (λ c κs. search needs)
     write-below-100-requires-2
-    same-length-3
+    (λ c. search needs)
     returns-3)

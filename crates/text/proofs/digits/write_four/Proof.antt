@@ -7,29 +7,11 @@ use borrow.Author.Needs.{needs}
 use Rattle.text.proofs.digits.write_four.Statement.{statement}
 use Rattle.text.proofs.digits.write_four.Tie as tie
 
-mul-pairs : tie.Need-mul-pairs
-mul-pairs c = search needs
-
-sub-pairs : tie.Need-sub-pairs
-sub-pairs c = search needs
-
-mul-pairs-2 : tie.Need-mul-pairs-2
-mul-pairs-2 c = search needs
-
-add-pairs : tie.Need-add-pairs
-add-pairs c = search needs
-
-mul-tens : tie.Need-mul-tens
-mul-tens c = search needs
-
 mul-bytes : tie.Need-mul-bytes
 mul-bytes c = omega (arith, four-tens (c .args .n) (c .pre .0))
 
 sub-bytes : tie.Need-sub-bytes
 sub-bytes c = omega (arith, four-tens (c .args .n) (c .pre .0))
-
-mul-bytes-2 : tie.Need-mul-bytes-2
-mul-bytes-2 c = search needs
 
 add-bytes : tie.Need-add-bytes
 add-bytes c = omega (arith, four-tens (c .args .n) (c .pre .0))
@@ -37,29 +19,8 @@ add-bytes c = omega (arith, four-tens (c .args .n) (c .pre .0))
 add-bytes-2 : tie.Need-add-bytes-2
 add-bytes-2 c = omega (arith, four-tens (c .args .n) (c .pre .0))
 
-add-second : tie.Need-add-second
-add-second c = search needs
-
-add-third : tie.Need-add-third
-add-third c = search needs
-
-add-last : tie.Need-add-last
-add-last c = search needs
-
-cast-out : tie.Need-cast-out
-cast-out c = search needs
-
-slice-write-out : tie.Need-slice-write-out
-slice-write-out c = search needs
-
-cast-out-2 : tie.Need-cast-out-2
-cast-out-2 c = search needs
-
 slice-write-out-2 : tie.Need-slice-write-out-2
 slice-write-out-2 c = simp length-set (omega arith)
-
-cast-out-3 : tie.Need-cast-out-3
-cast-out-3 c = search needs
 
 slice-write-out-3 : tie.Need-slice-write-out-3
 slice-write-out-3 c = simp length-set (omega arith)
@@ -69,9 +30,6 @@ cast-out-4 c = omega (arith, four-tens (c .args .n) (c .pre .0))
 
 slice-write-out-4 : tie.Need-slice-write-out-4
 slice-write-out-4 c = simp length-set (omega arith)
-
-same-length : tie.Need-same-length
-same-length c = search needs
 
 returns : tie.Need-returns
 returns c =
@@ -84,26 +42,26 @@ pub write-four-spec : {M : Type 1} → statement M
 write-four-spec =
     tie.close
     (tie.spec
-    mul-pairs
-    sub-pairs
-    mul-pairs-2
-    add-pairs
-    mul-tens
+    (λ c. search needs)
+    (λ c. search needs)
+    (λ c. search needs)
+    (λ c. search needs)
+    (λ c. search needs)
     mul-bytes
     sub-bytes
-    mul-bytes-2
+    (λ c. search needs)
     add-bytes
     add-bytes-2
-    add-second
-    add-third
-    add-last
-    cast-out
-    slice-write-out
-    cast-out-2
+    (λ c. search needs)
+    (λ c. search needs)
+    (λ c. search needs)
+    (λ c. search needs)
+    (λ c. search needs)
+    (λ c. search needs)
     slice-write-out-2
-    cast-out-3
+    (λ c. search needs)
     slice-write-out-3
     cast-out-4
     slice-write-out-4
-    same-length
+    (λ c. search needs)
     returns)

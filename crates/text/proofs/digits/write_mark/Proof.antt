@@ -18,18 +18,6 @@ returns-2 c =
     let args = c .before .before .args in
     sym (columns-end (args .out .now) (args .at) (args .width) (args .mark) 0 (omega arith))
 
-sub-last : tie.Need-sub-last
-sub-last c = search needs
-
-add-last : tie.Need-add-last
-add-last c = search needs
-
-slice-write-out : tie.Need-slice-write-out
-slice-write-out c = search needs
-
-same-length : tie.Need-same-length
-same-length c = search needs
-
 returns-3 : tie.Need-returns-3
 returns-3 c =
     let start = c .before .before in
@@ -38,4 +26,4 @@ returns-3 c =
 
 pub write-mark-spec : {M : Type 1} → statement M
 write-mark-spec =
-    tie.close (tie.spec returns returns-2 sub-last add-last slice-write-out same-length returns-3)
+    tie.close (tie.spec returns returns-2 (λ c. search needs) (λ c. search needs) (λ c. search needs) (λ c. search needs) returns-3)

@@ -5,12 +5,6 @@ use Rattle.text.proofs.DecimalLaws.{glyph-zero, glyph-digit}
 use Rattle.text.proofs.writing.glyph.Statement.{statement}
 use Rattle.text.proofs.writing.glyph.Tie as tie
 
-cast-result : tie.Need-cast-result
-cast-result c = search needs
-
-add-result : tie.Need-add-result
-add-result c = search needs
-
 -- Nothing is left of the number.
 returns : tie.Need-returns
 returns c = sym (glyph-zero _ _ (c .if1 .taken))
@@ -19,4 +13,4 @@ returns-2 : tie.Need-returns-2
 returns-2 c = sym (glyph-digit _ _ (c .if1 .left))
 
 pub glyph-spec : {M : Type 1} → statement M
-glyph-spec = tie.close (tie.spec cast-result add-result returns returns-2)
+glyph-spec = tie.close (tie.spec (λ c. search needs) (λ c. search needs) returns returns-2)

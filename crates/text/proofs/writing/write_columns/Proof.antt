@@ -40,24 +40,9 @@ returns c =
     let at-singles = c .before .before in
     at-singles .write-singles .ensures ∙ at-singles .before .before .before .before .loop .inv .0
 
-mul-last : tie.Need-mul-last Inv-loop μ-loop
-mul-last c = omega arith
-
-sub-last : tie.Need-sub-last Inv-loop μ-loop
-sub-last c = omega arith
-
-cast-last : tie.Need-cast-last Inv-loop μ-loop
-cast-last c = omega arith
-
-add-write-four : tie.Need-add-write-four Inv-loop μ-loop
-add-write-four c = omega arith
-
 write-four-requires : tie.Need-write-four-requires Inv-loop μ-loop
 write-four-requires c κs =
     let now = c .before .before .before .loop in (omega arith, omega (arith, now .inv .2, now .inv .3))
-
-loop-less : tie.Need-loop-less Inv-loop μ-loop
-loop-less c = omega arith
 
 loop-again : tie.Need-loop-again Inv-loop μ-loop
 loop-again c =
@@ -79,9 +64,6 @@ loop-again c =
       at-four .write-four .kept .0 ∙ long,
       omega arith,
     )
-
-cast-write-below-10000 : tie.Need-cast-write-below-10000 Inv-loop μ-loop
-cast-write-below-10000 c = omega arith
 
 write-below-10000-requires : tie.Need-write-below-10000-requires Inv-loop μ-loop
 write-below-10000-requires c κs =
@@ -107,14 +89,14 @@ write-columns-spec =
     write-singles-requires
     same-length
     returns
-    mul-last
-    sub-last
-    cast-last
-    add-write-four
+    (λ c. omega arith)
+    (λ c. omega arith)
+    (λ c. omega arith)
+    (λ c. omega arith)
     write-four-requires
-    loop-less
+    (λ c. omega arith)
     loop-again
-    cast-write-below-10000
+    (λ c. omega arith)
     write-below-10000-requires
     same-length-2
     returns-2)

@@ -8,18 +8,6 @@ use borrow.Author.Needs.{needs}
 use Rattle.text.proofs.writing.write_plain.Statement.{statement}
 use Rattle.text.proofs.writing.write_plain.Tie as tie
 
-write-blanks-requires : tie.Need-write-blanks-requires
-write-blanks-requires c κs = search needs
-
-sub-before : tie.Need-sub-before
-sub-before c = search needs
-
-add-last : tie.Need-add-last
-add-last c = search needs
-
-slice-write-out : tie.Need-slice-write-out
-slice-write-out c = search needs
-
 write-mark-requires : tie.Need-write-mark-requires
 write-mark-requires c κs =
     let at-blanks = c .before .before .before .before in
@@ -60,9 +48,6 @@ write-columns-requires c κs =
       over-blank (args .out .now) (blanks .last .0) (args .at) (args .width) (start .pre .0) (start .pre .1) (blanks .ensures),
     )
 
-same-length-2 : tie.Need-same-length-2
-same-length-2 c = search needs
-
 returns-2 : tie.Need-returns-2
 returns-2 c =
     let at-columns = c .before .before in
@@ -77,13 +62,13 @@ pub write-plain-spec : {M : Type 1} → statement M
 write-plain-spec =
     tie.close
     (tie.spec
-    write-blanks-requires
-    sub-before
-    add-last
-    slice-write-out
+    (λ c κs. search needs)
+    (λ c. search needs)
+    (λ c. search needs)
+    (λ c. search needs)
     write-mark-requires
     same-length
     returns
     write-columns-requires
-    same-length-2
+    (λ c. search needs)
     returns-2)

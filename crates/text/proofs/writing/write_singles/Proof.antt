@@ -40,24 +40,6 @@ returns c =
     (omega arith) (c .before .if1 .taken) (c .if2 .taken))
     ∙ left
 
-sub-i : tie.Need-sub-i Inv-loop μ-loop
-sub-i c = omega arith
-
-add-k : tie.Need-add-k Inv-loop μ-loop
-add-k c = omega arith
-
-glyph-requires : tie.Need-glyph-requires Inv-loop μ-loop
-glyph-requires c κs = search needs
-
-slice-write-out : tie.Need-slice-write-out Inv-loop μ-loop
-slice-write-out c = omega arith
-
-next-mark-requires : tie.Need-next-mark-requires Inv-loop μ-loop
-next-mark-requires c κs = search needs
-
-loop-less : tie.Need-loop-less Inv-loop μ-loop
-loop-less c = omega arith
-
 loop-again : tie.Need-loop-again Inv-loop μ-loop
 loop-again c =
     let at-glyph = c .before in
@@ -95,12 +77,12 @@ write-singles-spec =
     loop-holds
     same-length
     returns
-    sub-i
-    add-k
-    glyph-requires
-    slice-write-out
-    next-mark-requires
-    loop-less
+    (λ c. omega arith)
+    (λ c. omega arith)
+    (λ c κs. search needs)
+    (λ c. omega arith)
+    (λ c κs. search needs)
+    (λ c. omega arith)
     loop-again
     same-length-2
     returns-2)

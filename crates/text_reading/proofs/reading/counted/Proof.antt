@@ -10,29 +10,17 @@ use Rattle.text_reading.proofs.DigitLoop.{counted-none, counted-large, 
 use Rattle.text_reading.proofs.reading.counted.Statement.{statement}
 use Rattle.text_reading.proofs.reading.counted.Tie as tie
 
-none-requires : tie.Need-none-requires
-none-requires c κs = search needs
-
 -- No digit.
 returns : tie.Need-returns
 returns c =
     let args = c .before .before .args in
     c .none .ensures ∙ sym (counted-none (args .lowest) (args .highest) (args .mark) (args .size) (c .before .if1 .taken))
 
-none-requires-2 : tie.Need-none-requires-2
-none-requires-2 c κs = search needs
-
 -- Too large.
 returns-2 : tie.Need-returns-2
 returns-2 c =
     let args = c .before .before .before .args in
     c .none2 .ensures ∙ sym (counted-large (args .lowest) (args .highest) (args .mark) (args .size) (c .before .if2 .taken))
-
-signed-requires : tie.Need-signed-requires
-signed-requires c κs = search needs
-
-within-requires : tie.Need-within-requires
-within-requires c κs = search needs
 
 -- The number, within the limits or not.
 returns-3 : tie.Need-returns-3
@@ -55,10 +43,10 @@ pub counted-spec : {M : Type 1} → statement M
 counted-spec =
     tie.close
     (tie.spec
-    none-requires
+    (λ c κs. search needs)
     returns
-    none-requires-2
+    (λ c κs. search needs)
     returns-2
-    signed-requires
-    within-requires
+    (λ c κs. search needs)
+    (λ c κs. search needs)
     returns-3)

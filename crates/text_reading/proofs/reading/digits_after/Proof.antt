@@ -70,12 +70,6 @@ small-last c =
     let args = at-loop .before .before .before .args in
     turn-fits (args .columns .now) (args .mark) (args .start) (now .size) (now .k) (now .inv) 18 (omega arith)
 
-sub-if1 : tie.Need-sub-if1 Inv-loop μ-loop
-sub-if1 c = omega arith
-
-none-requires : tie.Need-none-requires Inv-loop μ-loop
-none-requires c κs = search needs
-
 -- Too many digits.
 returns : tie.Need-returns Inv-loop μ-loop
 returns c =
@@ -91,30 +85,6 @@ loop-holds c =
     let at-start = c .before .before in
     let args = at-start .args in
     turn-start (args .columns .now) (args .start) (args .mark) (at-start .pre .0) (at-start .pre .1)
-
-add-loop : tie.Need-add-loop Inv-loop μ-loop
-add-loop c = omega arith
-
-shared-slice-read-a : tie.Need-shared-slice-read-a Inv-loop μ-loop
-shared-slice-read-a c = omega arith
-
-add-b : tie.Need-add-b Inv-loop μ-loop
-add-b c = omega arith
-
-shared-slice-read-b : tie.Need-shared-slice-read-b Inv-loop μ-loop
-shared-slice-read-b c = omega arith
-
-is-digit-requires : tie.Need-is-digit-requires Inv-loop μ-loop
-is-digit-requires c κs = search needs
-
-is-digit-requires-2 : tie.Need-is-digit-requires-2 Inv-loop μ-loop
-is-digit-requires-2 c κs = search needs
-
-both-requires : tie.Need-both-requires Inv-loop μ-loop
-both-requires c κs = search needs
-
-none-requires-2 : tie.Need-none-requires-2 Inv-loop μ-loop
-none-requires-2 c κs = search needs
 
 -- A byte that is no digit.
 returns-2 : tie.Need-returns-2 Inv-loop μ-loop
@@ -147,12 +117,6 @@ add-size c =
     let second = digit-range _ (digits (c .before) .1) in
     rw (c .pair .ensures) (omega arith)
 
-add-k : tie.Need-add-k Inv-loop μ-loop
-add-k c = omega arith
-
-loop-less : tie.Need-loop-less Inv-loop μ-loop
-loop-less c = omega arith
-
 loop-again : tie.Need-loop-again Inv-loop μ-loop
 loop-again c =
     let in-loop = turnOf (c .before .before) in
@@ -163,15 +127,6 @@ loop-again c =
     rw (c .pair .ensures)
     (turn-two (args .columns .now) (args .mark) (args .start) (now .size) (now .k) (now .inv) (in-loop .loop-test .taken)
     (two .0) (two .1))
-
-shared-slice-read-last : tie.Need-shared-slice-read-last Inv-loop μ-loop
-shared-slice-read-last c = omega arith
-
-is-digit-requires-3 : tie.Need-is-digit-requires-3 Inv-loop μ-loop
-is-digit-requires-3 c κs = search needs
-
-none-requires-3 : tie.Need-none-requires-3 Inv-loop μ-loop
-none-requires-3 c κs = search needs
 
 -- The last byte is no digit.
 returns-3 : tie.Need-returns-3 Inv-loop μ-loop
@@ -195,17 +150,11 @@ mul-size-2 c =
 sub-wide : tie.Need-sub-wide Inv-loop μ-loop
 sub-wide c = digit-range _ (last-digit c) .0
 
-wide-requires : tie.Need-wide-requires Inv-loop μ-loop
-wide-requires c κs = search needs
-
 add-size-2 : tie.Need-add-size-2 Inv-loop μ-loop
 add-size-2 c =
     let bound = small-last (c .before .before .before .before) in
     let digit = digit-range _ (last-digit (c .before)) in
     rw (c .wide .ensures) (omega arith)
-
-counted-requires : tie.Need-counted-requires Inv-loop μ-loop
-counted-requires c κs = search needs
 
 -- The number, with a last digit or without.
 returns-4 : tie.Need-returns-4 Inv-loop μ-loop
@@ -238,32 +187,32 @@ digits-after-spec =
     (tie.spec
     Inv-loop
     μ-loop
-    sub-if1
-    none-requires
+    (λ c. omega arith)
+    (λ c κs. search needs)
     returns
     loop-holds
-    add-loop
-    shared-slice-read-a
-    add-b
-    shared-slice-read-b
-    is-digit-requires
-    is-digit-requires-2
-    both-requires
-    none-requires-2
+    (λ c. omega arith)
+    (λ c. omega arith)
+    (λ c. omega arith)
+    (λ c. omega arith)
+    (λ c κs. search needs)
+    (λ c κs. search needs)
+    (λ c κs. search needs)
+    (λ c κs. search needs)
     returns-2
     mul-size
     pair-requires
     add-size
-    add-k
-    loop-less
+    (λ c. omega arith)
+    (λ c. omega arith)
     loop-again
-    shared-slice-read-last
-    is-digit-requires-3
-    none-requires-3
+    (λ c. omega arith)
+    (λ c κs. search needs)
+    (λ c κs. search needs)
     returns-3
     mul-size-2
     sub-wide
-    wide-requires
+    (λ c κs. search needs)
     add-size-2
-    counted-requires
+    (λ c κs. search needs)
     returns-4)

@@ -9,9 +9,6 @@ use Rattle.text_reading.proofs.ReadingLoop.{ready-none, ready-zeros, re
 use Rattle.text_reading.proofs.reading.number_after.Statement.{statement}
 use Rattle.text_reading.proofs.reading.number_after.Tie as tie
 
-none-requires : tie.Need-none-requires
-none-requires c κs = search needs
-
 -- The text ends after blanks, or after a minus.
 returns : tie.Need-returns
 returns c =
@@ -21,15 +18,6 @@ returns c =
     ∙ sym
     (ready-none (args .lowest) (args .highest) (args .columns .now) (args .start) (args .mark) (at-start .pre)
     (omega arith))
-
-shared-slice-read-if2 : tie.Need-shared-slice-read-if2
-shared-slice-read-if2 c = search needs
-
-add-if3 : tie.Need-add-if3
-add-if3 c = search needs
-
-none-requires-2 : tie.Need-none-requires-2
-none-requires-2 c κs = search needs
 
 -- A byte after a zero.
 returns-2 : tie.Need-returns-2
@@ -41,9 +29,6 @@ returns-2 c =
     ∙ sym
     (ready-zeros (args .lowest) (args .highest) (args .columns .now) (args .start) (args .mark) (at-start .pre)
     (omega arith) (at-zero .if2 .taken))
-
-within-requires : tie.Need-within-requires
-within-requires c κs = search needs
 
 -- A zero alone.
 returns-3 : tie.Need-returns-3
@@ -57,9 +42,6 @@ returns-3 c =
     (ready-zero (args .lowest) (args .highest) (args .columns .now) (args .start) (args .mark) (at-start .pre)
     (omega arith) (omega arith) (at-zero .if2 .taken) (c .before .if4 .taken))
 
-none-requires-3 : tie.Need-none-requires-3
-none-requires-3 c κs = search needs
-
 -- A zero after a minus.
 returns-4 : tie.Need-returns-4
 returns-4 c =
@@ -70,9 +52,6 @@ returns-4 c =
     ∙ sym
     (ready-minus-zero (args .lowest) (args .highest) (args .columns .now) (args .start) (args .mark) (at-start .pre)
     (omega arith) (at-zero .if2 .taken) (c .before .if4 .left))
-
-digits-after-requires : tie.Need-digits-after-requires
-digits-after-requires c κs = search needs
 
 -- No zero.
 returns-5 : tie.Need-returns-5
@@ -86,15 +65,15 @@ pub number-after-spec : {M : Type 1} → statement M
 number-after-spec =
     tie.close
     (tie.spec
-    none-requires
+    (λ c κs. search needs)
     returns
-    shared-slice-read-if2
-    add-if3
-    none-requires-2
+    (λ c. search needs)
+    (λ c. search needs)
+    (λ c κs. search needs)
     returns-2
-    within-requires
+    (λ c κs. search needs)
     returns-3
-    none-requires-3
+    (λ c κs. search needs)
     returns-4
-    digits-after-requires
+    (λ c κs. search needs)
     returns-5)

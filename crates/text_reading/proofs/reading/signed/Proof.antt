@@ -23,14 +23,8 @@ module _ (n : ℕ) (h : n ≤ 1_000_000_000_000_000_009) where
   negated-fits : SFits w64 (pos 0 -ℤ toZ w64 n)
   negated-fits = subst (λ (t : ℤ). SFits w64 t) (sym negated) (neg-fits n refl)
 
-cast-result : tie.Need-cast-result
-cast-result c = search needs
-
 sub-result : tie.Need-sub-result
 sub-result c = negated-fits (c .before .args .size) (omega arith)
-
-cast-result-2 : tie.Need-cast-result-2
-cast-result-2 c = search needs
 
 -- After a minus.
 returns : tie.Need-returns
@@ -44,4 +38,4 @@ unfolding signed
 returns-2 c = rw (ne-eqb _ _ (c .if1 .left)) (toZ-pos w64 {n = c .before .args .size} (omega arith))
 
 pub signed-spec : {M : Type 1} → statement M
-signed-spec = tie.close (tie.spec cast-result sub-result cast-result-2 returns returns-2)
+signed-spec = tie.close (tie.spec (λ c. search needs) sub-result (λ c. search needs) returns returns-2)

@@ -23,9 +23,6 @@ tested c =
     let fits = c .before .fits in
     c .both .ensures ∙ ap₂ _&&_ (bits-le _ _ (fits .lowest) (fits .value)) (bits-le _ _ (fits .value) (fits .highest))
 
-both-requires : tie.Need-both-requires
-both-requires c κs = search needs
-
 -- From the lowest to the highest.
 returns : tie.Need-returns
 returns c =
@@ -33,9 +30,6 @@ returns c =
     let args = at-start .args in
     ap accepted (toZ-ofZ (at-start .fits .value))
     ∙ sym (within-passed (args .lowest) (args .highest) (args .value) (sym (tested (c .before)) ∙ c .if1 .taken))
-
-none-requires : tie.Need-none-requires
-none-requires c κs = search needs
 
 returns-2 : tie.Need-returns-2
 returns-2 c =
@@ -46,4 +40,4 @@ returns-2 c =
     (within-refused (args .lowest) (args .highest) (args .value) (sym (tested (at-test .before)) ∙ at-test .if1 .left))
 
 pub within-spec : {M : Type 1} → statement M
-within-spec = tie.close (tie.spec both-requires returns none-requires returns-2)
+within-spec = tie.close (tie.spec (λ c κs. search needs) returns (λ c κs. search needs) returns-2)

@@ -37,18 +37,6 @@ known c =
     lit≤ tt also lit≤ tt also lit≤ tt also lit≤ tt also lit≤ tt also lit≤ tt also done in
     at-most-at small (pos 0) (lit≤ tt) (c .args .t) & fraction-small c & all
 
-mul-result : tie.Need-mul-result
-mul-result c = search needs
-
-array-copy-out-result : tie.Need-array-copy-out-result
-array-copy-out-result c = search needs
-
-mul-result-2 : tie.Need-mul-result-2
-mul-result-2 c = search needs
-
-array-read-result : tie.Need-array-read-result
-array-read-result c = search needs
-
 cast-result : tie.Need-cast-result
 cast-result c = sfits-of (omega (arith, fraction-small (c .before)))
 
@@ -64,10 +52,10 @@ pub organic-spec : {M : Type 1} → statement M
 organic-spec =
     tie.close
     (tie.spec
-    mul-result
-    array-copy-out-result
-    mul-result-2
-    array-read-result
+    (λ c. search needs)
+    (λ c. search needs)
+    (λ c. search needs)
+    (λ c. search needs)
     cast-result
     mul-result-3
     returns)

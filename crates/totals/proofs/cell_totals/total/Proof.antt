@@ -6,9 +6,6 @@ use Rattle.totals.specs.TotalsCode.{weightedTotal}
 use Rattle.totals.proofs.cell_totals.total.Statement.{statement}
 use Rattle.totals.proofs.cell_totals.total.Tie as tie
 
-weights-requires : tie.Need-weights-requires
-weights-requires c κs = search needs
-
 weighted-total-requires : tie.Need-weighted-total-requires
 weighted-total-requires c κs =
     let at-weights = c .before in
@@ -24,4 +21,4 @@ returns c =
     ∙ (λ i. weightedTotal (a .amounts .now) (a .start) (at-weights .weights .ensures i))
 
 pub total-spec : {M : Type 1} → statement M
-total-spec = tie.close (tie.spec weights-requires weighted-total-requires returns)
+total-spec = tie.close (tie.spec (λ c κs. search needs) weighted-total-requires returns)

@@ -7,24 +7,6 @@ use Rattle.totals.specs.TotalsCode.{weightsOf, weightedTotal, totalsAt}
 use Rattle.totals.proofs.cell_totals.totals_at.Statement.{statement}
 use Rattle.totals.proofs.cell_totals.totals_at.Tie as tie
 
-total-requires : tie.Need-total-requires
-total-requires c κs = search needs
-
-total-requires-2 : tie.Need-total-requires-2
-total-requires-2 c κs = search needs
-
-total-requires-3 : tie.Need-total-requires-3
-total-requires-3 c κs = search needs
-
-total-requires-4 : tie.Need-total-requires-4
-total-requires-4 c κs = search needs
-
-total-requires-5 : tie.Need-total-requires-5
-total-requires-5 c κs = search needs
-
-total-requires-6 : tie.Need-total-requires-6
-total-requires-6 c κs = search needs
-
 returns : tie.Need-returns
 unfolding totalsAt
 returns c =
@@ -50,10 +32,10 @@ pub totals-at-spec : {M : Type 1} → statement M
 totals-at-spec =
     tie.close
     (tie.spec
-    total-requires
-    total-requires-2
-    total-requires-3
-    total-requires-4
-    total-requires-5
-    total-requires-6
+    (λ c κs. search needs)
+    (λ c κs. search needs)
+    (λ c κs. search needs)
+    (λ c κs. search needs)
+    (λ c κs. search needs)
+    (λ c κs. search needs)
     returns)

@@ -22,21 +22,6 @@ abbrev μ-loop : tie.MeasureT-loop
 loop-holds : tie.Need-loop-holds Inv-loop μ-loop
 loop-holds c = (omega arith, sym (sum-none _))
 
-add-sum : tie.Need-add-sum Inv-loop μ-loop
-add-sum c = omega arith
-
-mul-sum : tie.Need-mul-sum Inv-loop μ-loop
-mul-sum c = omega arith
-
-element-copy-out-sum : tie.Need-element-copy-out-sum Inv-loop μ-loop
-element-copy-out-sum c = omega arith
-
-mul-sum-2 : tie.Need-mul-sum-2 Inv-loop μ-loop
-mul-sum-2 c = omega arith
-
-element-copy-out-sum-2 : tie.Need-element-copy-out-sum-2 Inv-loop μ-loop
-element-copy-out-sum-2 c = omega arith
-
 mul-sum-3 : tie.Need-mul-sum-3 Inv-loop μ-loop
 mul-sum-3 c =
     let at-loop = c .before .before .before in
@@ -54,12 +39,6 @@ add-sum-2 c =
     let inside : at-loop .loop .s < substances = omega arith in
     sum-fits (a .amounts .now) (a .start) (a .weights .now) (at-start .pre .1) (at-loop .loop .s) inside
     (c .before .sum .given) (c .sum2 .given) (at-loop .loop .sum) (at-loop .loop .inv .1)
-
-add-s : tie.Need-add-s Inv-loop μ-loop
-add-s c = omega arith
-
-loop-less : tie.Need-loop-less Inv-loop μ-loop
-loop-less c = omega arith
 
 loop-again : tie.Need-loop-again Inv-loop μ-loop
 loop-again c =
@@ -85,14 +64,14 @@ weighted-total-spec =
     Inv-loop
     μ-loop
     loop-holds
-    add-sum
-    mul-sum
-    element-copy-out-sum
-    mul-sum-2
-    element-copy-out-sum-2
+    (λ c. omega arith)
+    (λ c. omega arith)
+    (λ c. omega arith)
+    (λ c. omega arith)
+    (λ c. omega arith)
     mul-sum-3
     add-sum-2
-    add-s
-    loop-less
+    (λ c. omega arith)
+    (λ c. omega arith)
     loop-again
     returns)

@@ -9,90 +9,6 @@ use Rattle.totals.specs.TotalsCode.{partOf, weightsOf}
 use Rattle.totals.proofs.cell_totals.weights.Statement.{statement}
 use Rattle.totals.proofs.cell_totals.weights.Tie as tie
 
-organic-requires : tie.Need-organic-requires
-organic-requires c κs = omega arith
-
-organic-requires-2 : tie.Need-organic-requires-2
-organic-requires-2 c κs = omega arith
-
-mul-t7 : tie.Need-mul-t7
-mul-t7 c = omega arith
-
-array-copy-out-t10 : tie.Need-array-copy-out-t10
-array-copy-out-t10 c = omega arith
-
-mul-t12 : tie.Need-mul-t12
-mul-t12 c = omega arith
-
-array-copy-out-t15 : tie.Need-array-copy-out-t15
-array-copy-out-t15 c = omega arith
-
-mul-t17 : tie.Need-mul-t17
-mul-t17 c = omega arith
-
-array-copy-out-t20 : tie.Need-array-copy-out-t20
-array-copy-out-t20 c = omega arith
-
-mul-t22 : tie.Need-mul-t22
-mul-t22 c = omega arith
-
-array-copy-out-t25 : tie.Need-array-copy-out-t25
-array-copy-out-t25 c = omega arith
-
-mul-t27 : tie.Need-mul-t27
-mul-t27 c = omega arith
-
-array-copy-out-t30 : tie.Need-array-copy-out-t30
-array-copy-out-t30 c = omega arith
-
-mul-t32 : tie.Need-mul-t32
-mul-t32 c = omega arith
-
-array-copy-out-t35 : tie.Need-array-copy-out-t35
-array-copy-out-t35 c = omega arith
-
-mul-t37 : tie.Need-mul-t37
-mul-t37 c = omega arith
-
-array-copy-out-t40 : tie.Need-array-copy-out-t40
-array-copy-out-t40 c = omega arith
-
-organic-requires-3 : tie.Need-organic-requires-3
-organic-requires-3 c κs = omega arith
-
-organic-requires-4 : tie.Need-organic-requires-4
-organic-requires-4 c κs = omega arith
-
-organic-requires-5 : tie.Need-organic-requires-5
-organic-requires-5 c κs = omega arith
-
-organic-requires-6 : tie.Need-organic-requires-6
-organic-requires-6 c κs = omega arith
-
-organic-requires-7 : tie.Need-organic-requires-7
-organic-requires-7 c κs = omega arith
-
-organic-requires-8 : tie.Need-organic-requires-8
-organic-requires-8 c κs = omega arith
-
-mul-t48 : tie.Need-mul-t48
-mul-t48 c = omega arith
-
-array-copy-out-t51 : tie.Need-array-copy-out-t51
-array-copy-out-t51 c = omega arith
-
-mul-t53 : tie.Need-mul-t53
-mul-t53 c = omega arith
-
-array-copy-out-t56 : tie.Need-array-copy-out-t56
-array-copy-out-t56 c = omega arith
-
-mul-t58 : tie.Need-mul-t58
-mul-t58 c = omega arith
-
-array-copy-out-t61 : tie.Need-array-copy-out-t61
-array-copy-out-t61 c = omega arith
-
 returns : tie.Need-returns
 unfolding weightsOf
 returns c =
@@ -140,32 +56,32 @@ pub weights-spec : {M : Type 1} → statement M
 weights-spec =
     tie.close
     (tie.spec
-    organic-requires
-    organic-requires-2
-    mul-t7
-    array-copy-out-t10
-    mul-t12
-    array-copy-out-t15
-    mul-t17
-    array-copy-out-t20
-    mul-t22
-    array-copy-out-t25
-    mul-t27
-    array-copy-out-t30
-    mul-t32
-    array-copy-out-t35
-    mul-t37
-    array-copy-out-t40
-    organic-requires-3
-    organic-requires-4
-    organic-requires-5
-    organic-requires-6
-    organic-requires-7
-    organic-requires-8
-    mul-t48
-    array-copy-out-t51
-    mul-t53
-    array-copy-out-t56
-    mul-t58
-    array-copy-out-t61
+    (λ c κs. omega arith)
+    (λ c κs. omega arith)
+    (λ c. omega arith)
+    (λ c. omega arith)
+    (λ c. omega arith)
+    (λ c. omega arith)
+    (λ c. omega arith)
+    (λ c. omega arith)
+    (λ c. omega arith)
+    (λ c. omega arith)
+    (λ c. omega arith)
+    (λ c. omega arith)
+    (λ c. omega arith)
+    (λ c. omega arith)
+    (λ c. omega arith)
+    (λ c. omega arith)
+    (λ c κs. omega arith)
+    (λ c κs. omega arith)
+    (λ c κs. omega arith)
+    (λ c κs. omega arith)
+    (λ c κs. omega arith)
+    (λ c κs. omega arith)
+    (λ c. omega arith)
+    (λ c. omega arith)
+    (λ c. omega arith)
+    (λ c. omega arith)
+    (λ c. omega arith)
+    (λ c. omega arith)
     returns)

@@ -9,9 +9,6 @@ use Rattle.transport.proofs.AirLaws.{exchange-bound, exchanged-bound}
 use Rattle.transport.proofs.air.exchanged_part.Statement.{statement}
 use Rattle.transport.proofs.air.exchanged_part.Tie as tie
 
-mul-result : tie.Need-mul-result
-mul-result c = search needs
-
 mul-result-2 : tie.Need-mul-result-2
 mul-result-2 c =
     fits-below {n = 72000000000000} tt (exchange-bound (c .args .constant) (c .args .seconds) (c .pre .0) (c .pre .1))
@@ -27,4 +24,4 @@ returns c =
     toZ-pos w64 (omega (arith, exchanged-bound (c .args .constant) (c .args .seconds) (c .pre .0) (c .pre .1)))
 
 pub exchanged-part-spec : {M : Type 1} → statement M
-exchanged-part-spec = tie.close (tie.spec mul-result mul-result-2 cast-result returns)
+exchanged-part-spec = tie.close (tie.spec (λ c. search needs) mul-result-2 cast-result returns)

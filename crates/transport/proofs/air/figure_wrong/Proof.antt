@@ -4,18 +4,9 @@ use Rattle.transport.specs.Air.{airFigureWrong}
 use Rattle.transport.proofs.air.figure_wrong.Statement.{statement}
 use Rattle.transport.proofs.air.figure_wrong.Tie as tie
 
-both-requires : tie.Need-both-requires
-both-requires c κs = search needs
-
-both-requires-2 : tie.Need-both-requires-2
-both-requires-2 c κs = search needs
-
-both-requires-3 : tie.Need-both-requires-3
-both-requires-3 c κs = search needs
-
 returns : tie.Need-returns
 unfolding airFigureWrong
 returns c = rw (c .both3 .ensures, c .before .both2 .ensures, c .before .before .both .ensures)
 
 pub figure-wrong-spec : {M : Type 1} → statement M
-figure-wrong-spec = tie.close (tie.spec both-requires both-requires-2 both-requires-3 returns)
+figure-wrong-spec = tie.close (tie.spec (λ c κs. search needs) (λ c κs. search needs) (λ c κs. search needs) returns)

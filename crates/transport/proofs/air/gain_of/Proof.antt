@@ -64,12 +64,6 @@ moved-known c =
     let small : natAbs (moved c) ≤ 870054616 = omega (arith, abs-quot (product c) 1000000000) in
     small & all
 
-wide-requires : tie.Need-wide-requires
-wide-requires c κs = search needs
-
-oxygen-level-requires : tie.Need-oxygen-level-requires
-oxygen-level-requires c κs = search needs
-
 sub-difference : tie.Need-sub-difference
 sub-difference c = asked (known c) (v 0 ⊖ v 1) tt
 
@@ -106,8 +100,8 @@ pub gain-of-spec : {M : Type 1} → statement M
 gain-of-spec =
     tie.close
     (tie.spec
-    wide-requires
-    oxygen-level-requires
+    (λ c κs. search needs)
+    (λ c κs. search needs)
     sub-difference
     exchanged-part-requires
     mul-result

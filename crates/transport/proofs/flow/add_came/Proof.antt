@@ -22,12 +22,6 @@ Inv-loop cells amounts₀ left end k₀ amounts k =
 abbrev μ-loop : tie.MeasureT-loop
 μ-loop cells amounts₀ left end k₀ amounts k = mostCells * substances - k
 
-sub-end : tie.Need-sub-end Inv-loop μ-loop
-sub-end c = omega arith
-
-mul-end : tie.Need-mul-end Inv-loop μ-loop
-mul-end c = omega arith
-
 -- The amount at k is what stayed.
 still : (c : tie.At-loop Inv-loop μ-loop)
     → getD (c .loop .amounts) (substances + c .loop .k) (pos 0) ≡ getD (c .before .args .amounts .now) (substances + c .loop .k) (pos 0)
@@ -38,21 +32,6 @@ still c =
 loop-holds : tie.Need-loop-holds Inv-loop μ-loop
 loop-holds c = (omega arith, run-none _ substances _)
 
-add-with : tie.Need-add-with Inv-loop μ-loop
-add-with c = omega arith
-
-mul-with : tie.Need-mul-with Inv-loop μ-loop
-mul-with c = omega arith
-
-element-copy-out-with : tie.Need-element-copy-out-with Inv-loop μ-loop
-element-copy-out-with c = omega arith
-
-mul-with-2 : tie.Need-mul-with-2 Inv-loop μ-loop
-mul-with-2 c = omega arith
-
-element-copy-out-with-2 : tie.Need-element-copy-out-with-2 Inv-loop μ-loop
-element-copy-out-with-2 c = omega arith
-
 with-requires : tie.Need-with-requires Inv-loop μ-loop
 with-requires c κs =
     let at-loop = c .before .before .before in
@@ -61,21 +40,6 @@ with-requires c κs =
       rw (toZ-ofZ (sfits-of (c .before .with-arg .given)), still at-loop) (handed .2 .small (substances + k) (omega arith)),
       rw (toZ-ofZ (sfits-of (c .with-arg2 .given))) (handed .3 .small k (omega arith)),
     )
-
-add-t18 : tie.Need-add-t18 Inv-loop μ-loop
-add-t18 c = omega arith
-
-mul-t19 : tie.Need-mul-t19 Inv-loop μ-loop
-mul-t19 c = omega arith
-
-element-set-from-amounts : tie.Need-element-set-from-amounts Inv-loop μ-loop
-element-set-from-amounts c = omega arith
-
-add-k : tie.Need-add-k Inv-loop μ-loop
-add-k c = omega arith
-
-loop-less : tie.Need-loop-less Inv-loop μ-loop
-loop-less c = omega arith
 
 loop-again : tie.Need-loop-again Inv-loop μ-loop
 loop-again c =
@@ -103,19 +67,19 @@ add-came-spec =
     (tie.spec
     Inv-loop
     μ-loop
-    sub-end
-    mul-end
+    (λ c. omega arith)
+    (λ c. omega arith)
     loop-holds
-    add-with
-    mul-with
-    element-copy-out-with
-    mul-with-2
-    element-copy-out-with-2
+    (λ c. omega arith)
+    (λ c. omega arith)
+    (λ c. omega arith)
+    (λ c. omega arith)
+    (λ c. omega arith)
     with-requires
-    add-t18
-    mul-t19
-    element-set-from-amounts
-    add-k
-    loop-less
+    (λ c. omega arith)
+    (λ c. omega arith)
+    (λ c. omega arith)
+    (λ c. omega arith)
+    (λ c. omega arith)
     loop-again
     returns)

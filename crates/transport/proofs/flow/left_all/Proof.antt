@@ -23,29 +23,11 @@ abbrev μ-loop : tie.MeasureT-loop
 loop-holds : tie.Need-loop-holds Inv-loop μ-loop
 loop-holds c = fill-none (mostCells * substances) _ _ refl
 
-mul-passed : tie.Need-mul-passed Inv-loop μ-loop
-mul-passed c = omega arith
-
-element-copy-out-passed : tie.Need-element-copy-out-passed Inv-loop μ-loop
-element-copy-out-passed c = omega arith
-
 passed-requires : tie.Need-passed-requires Inv-loop μ-loop
 passed-requires c κs =
     let at-loop = c .before .before in
     let handed = at-loop .before .pre in
     (handed .0, rw (toZ-ofZ (sfits-of (c .passed-arg .given))) (handed .1 .small (at-loop .loop .k) (omega arith)))
-
-mul-left : tie.Need-mul-left Inv-loop μ-loop
-mul-left c = omega arith
-
-array-set-from-left : tie.Need-array-set-from-left Inv-loop μ-loop
-array-set-from-left c = omega arith
-
-add-k : tie.Need-add-k Inv-loop μ-loop
-add-k c = omega arith
-
-loop-less : tie.Need-loop-less Inv-loop μ-loop
-loop-less c = omega arith
 
 loop-again : tie.Need-loop-again Inv-loop μ-loop
 loop-again c =
@@ -64,12 +46,12 @@ left-all-spec =
     Inv-loop
     μ-loop
     loop-holds
-    mul-passed
-    element-copy-out-passed
+    (λ c. omega arith)
+    (λ c. omega arith)
     passed-requires
-    mul-left
-    array-set-from-left
-    add-k
-    loop-less
+    (λ c. omega arith)
+    (λ c. omega arith)
+    (λ c. omega arith)
+    (λ c. omega arith)
     loop-again
     returns)

@@ -10,9 +10,6 @@ use borrow.Author.Needs.{needs}
 use Rattle.transport.proofs.flow.move_amounts.Statement.{statement}
 use Rattle.transport.proofs.flow.move_amounts.Tie as tie
 
-take-left-requires : tie.Need-take-left-requires
-take-left-requires c κs = search needs
-
 add-came-requires : tie.Need-add-came-requires
 add-came-requires c κs =
     let at-left = c .before in
@@ -36,4 +33,4 @@ returns c =
     ∙ joined-moved (args .cells) (args .amounts .now) (args .left .now) (start .pre .2) (start .pre .0) (start .pre .1)
 
 pub move-amounts-spec : {M : Type 1} → statement M
-move-amounts-spec = tie.close (tie.spec take-left-requires add-came-requires returns)
+move-amounts-spec = tie.close (tie.spec (λ c κs. search needs) add-came-requires returns)

@@ -69,9 +69,6 @@ cast-part-of c =
     let back = ran (known (c .before)) (⊝ (v 0)) tt in
     (rw back (negated-nonNeg amount (below c)), rw back (omega (arith, abs-neg amount)))
 
-part-of-requires : tie.Need-part-of-requires
-part-of-requires c κs = search needs
-
 cast-result : tie.Need-cast-result
 cast-result c = fits-abs (pos (c .part-of .result)) (part-fits c)
 
@@ -96,9 +93,6 @@ cast-part-of-2 c =
     let back = toZ-ofZ (c .before .fits .amount) in
     (rw back (yes-nonNeg (above c)), rw back (omega arith))
 
-part-of-requires-2 : tie.Need-part-of-requires-2
-part-of-requires-2 c κs = search needs
-
 cast-result-2 : tie.Need-cast-result-2
 cast-result-2 c = fits-abs (pos (c .part-of2 .result)) (part-fits-2 c)
 
@@ -114,11 +108,11 @@ passed-spec =
     (tie.spec
     sub-part-of
     cast-part-of
-    part-of-requires
+    (λ c κs. search needs)
     cast-result
     sub-result
     returns
     cast-part-of-2
-    part-of-requires-2
+    (λ c κs. search needs)
     cast-result-2
     returns-2)

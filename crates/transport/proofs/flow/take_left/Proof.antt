@@ -32,18 +32,6 @@ still c =
 loop-holds : tie.Need-loop-holds Inv-loop μ-loop
 loop-holds c = (omega arith, run-none _ 0 _)
 
-mul-less : tie.Need-mul-less Inv-loop μ-loop
-mul-less c = omega arith
-
-element-copy-out-less : tie.Need-element-copy-out-less Inv-loop μ-loop
-element-copy-out-less c = omega arith
-
-mul-less-2 : tie.Need-mul-less-2 Inv-loop μ-loop
-mul-less-2 c = omega arith
-
-element-copy-out-less-2 : tie.Need-element-copy-out-less-2 Inv-loop μ-loop
-element-copy-out-less-2 c = omega arith
-
 less-requires : tie.Need-less-requires Inv-loop μ-loop
 less-requires c κs =
     let at-loop = c .before .before .before in
@@ -52,18 +40,6 @@ less-requires c κs =
       rw (toZ-ofZ (sfits-of (c .before .less-arg .given)), still at-loop) (handed .0 .small k (omega arith)),
       rw (toZ-ofZ (sfits-of (c .less-arg2 .given))) (handed .1 .small k (omega arith)),
     )
-
-mul-t14 : tie.Need-mul-t14 Inv-loop μ-loop
-mul-t14 c = omega arith
-
-element-set-from-amounts : tie.Need-element-set-from-amounts Inv-loop μ-loop
-element-set-from-amounts c = omega arith
-
-add-k : tie.Need-add-k Inv-loop μ-loop
-add-k c = omega arith
-
-loop-less : tie.Need-loop-less Inv-loop μ-loop
-loop-less c = omega arith
 
 loop-again : tie.Need-loop-again Inv-loop μ-loop
 loop-again c =
@@ -94,14 +70,14 @@ take-left-spec =
     Inv-loop
     μ-loop
     loop-holds
-    mul-less
-    element-copy-out-less
-    mul-less-2
-    element-copy-out-less-2
+    (λ c. omega arith)
+    (λ c. omega arith)
+    (λ c. omega arith)
+    (λ c. omega arith)
     less-requires
-    mul-t14
-    element-set-from-amounts
-    add-k
-    loop-less
+    (λ c. omega arith)
+    (λ c. omega arith)
+    (λ c. omega arith)
+    (λ c. omega arith)
     loop-again
     returns)

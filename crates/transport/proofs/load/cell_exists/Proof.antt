@@ -3,11 +3,8 @@ use borrow.Author.Needs.{needs}
 use Rattle.transport.proofs.load.cell_exists.Statement.{statement}
 use Rattle.transport.proofs.load.cell_exists.Tie as tie
 
-both-requires : tie.Need-both-requires
-both-requires c κs = search needs
-
 returns : tie.Need-returns
 returns c = c .both .ensures
 
 pub cell-exists-spec : {M : Type 1} → statement M
-cell-exists-spec = tie.close (tie.spec both-requires returns)
+cell-exists-spec = tie.close (tie.spec (λ c κs. search needs) returns)

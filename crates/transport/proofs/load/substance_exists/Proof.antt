@@ -4,12 +4,9 @@ use Rattle.river.specs.Rivers.{substanceExists}
 use Rattle.transport.proofs.load.substance_exists.Statement.{statement}
 use Rattle.transport.proofs.load.substance_exists.Tie as tie
 
-both-requires : tie.Need-both-requires
-both-requires c κs = search needs
-
 returns : tie.Need-returns
 unfolding substanceExists
 returns c = c .both .ensures
 
 pub substance-exists-spec : {M : Type 1} → statement M
-substance-exists-spec = tie.close (tie.spec both-requires returns)
+substance-exists-spec = tie.close (tie.spec (λ c κs. search needs) returns)

@@ -29,9 +29,6 @@ known c =
     let number-small : natAbs number ≤ 2000000000000000000 = abs-from number 2000000000000000000 low high in
     start .pre .1 & number-small & all
 
-sub-if1 : tie.Need-sub-if1
-sub-if1 c = search needs
-
 -- The number is too low.
 returns : tie.Need-returns
 returns c =
@@ -51,9 +48,6 @@ returns-2 c =
 add-amount-in-bounds : tie.Need-add-amount-in-bounds
 add-amount-in-bounds c = asked (known c) (v 0 ⊕ v 1) tt
 
-amount-in-bounds-requires : tie.Need-amount-in-bounds-requires
-amount-in-bounds-requires c κs = search needs
-
 returns-3 : tie.Need-returns-3
 returns-3 c =
     let start = c .before .before .before in
@@ -61,4 +55,4 @@ returns-3 c =
 
 pub sum-fits-spec : {M : Type 1} → statement M
 sum-fits-spec =
-    tie.close (tie.spec sub-if1 returns returns-2 add-amount-in-bounds amount-in-bounds-requires returns-3)
+    tie.close (tie.spec (λ c. search needs) returns returns-2 add-amount-in-bounds (λ c κs. search needs) returns-3)
