@@ -1,11 +1,12 @@
 -- Calls, answers and the book (scope, "Flow, air, load, and the book"). Nothing here knows of a river: the book is
 -- given the set and, call by call, the arguments and the answer. Rivers: Held.antt. No assumptions.
 use Prim.Native.Nat.{ℕ, zero, suc, _+_, _*_, _-_}
-use mathlib.Core.Bool.{Bool, _&&_, cond}
+use mathlib.Core.Bool.{Bool, cond}
 use mathlib.Core.List.{List, [], _∷_}
-use lib.Dec.{leb, eqb}
+use lib.Dec.{eqb}
 use lib.ListN.{getD}
 use lib.IntN.{ℤ, pos, _+ℤ_, _-ℤ_}
+use Rattle.numeric.specs.Check.{inRange}
 use Rattle.numeric.specs.Sum.{sum}
 use Rattle.stoichiometry.specs.declared.Set.{Set}
 use Rattle.stoichiometry.specs.Substances.{substances, o2, place, Total, contents}
@@ -35,7 +36,7 @@ pub record Entry : Type 0 where
 
 -- A cell is one of the cells i to j.
 abbrev pub among : ℕ → ℕ → ℕ → Bool
-among i j cell = leb i cell && leb cell j
+among i j = inRange i j
 
 -- The contents of all amounts that a list has for a cell, numbered from 1; nothing for cell 0.
 unfoldable pub listed : Set → Total → List ℤ → ℕ → ℤ

@@ -10,13 +10,13 @@ use borrow.Author.Tests.{leb-true, le-leb, not-false}
 use lib.Dec.{leb, lit<, lit≤}
 use lib.ListN.{length, getD}
 use lib.IntN.{ℤ}
-use Rattle.numeric.specs.Check.{allOf}
+use Rattle.numeric.specs.Check.{inRange, allOf}
 use Rattle.numeric.proofs.CheckLaws.{and-left, and-right, allOf-at}
 use Rattle.numeric.proofs.TableLaws.{done, _also_, at-most-at}
 use Rattle.stoichiometry.specs.declared.Set.{Set}
 use Rattle.stoichiometry.specs.Substances.{Substance}
 use Rattle.stoichiometry.specs.Levels.{mostLevel}
-use Rattle.stoichiometry.specs.Parameters.{inRange, yieldList, inertList, rateList, halfList, yieldsFit, constantsFit, figuresWrong}
+use Rattle.stoichiometry.specs.Parameters.{yieldList, inertList, rateList, halfList, yieldsFit, constantsFit, figuresWrong}
 use Rattle.stoichiometry.specs.Rows.{processes, noProcess, processesOf, processAt}
 use Rattle.kinetics.specs.declared.Conditions.{Conditions}
 use Rattle.stoichiometry.specs.Limits.{mostSeconds, secondsPerDay}
@@ -27,7 +27,6 @@ use Rattle.kinetics.proofs.FactorLaws.{riseOfAll, product-bound}
 -- What a list of figures that are all in a range says of each.
 listed : (low high : ℕ) (l : List ℕ) → allOf (inRange low high) l ≡ true → (i : ℕ) → i < length l
     → (low ≤ getD l i 0) × (getD l i 0 ≤ high)
-unfolding inRange
 listed low high l e i h =
     let x = getD l i 0 in
     let fits = allOf-at (inRange low high) l i 0 e h in

@@ -3,6 +3,7 @@
 use Prim.Native.Nat.{ℕ}
 use mathlib.Core.Bool.{Bool, not, _&&_}
 use lib.Dec.{leb}
+use Rattle.numeric.specs.Check.{inRange}
 use Rattle.kinetics.specs.declared.Conditions.{Conditions}
 use Rattle.kinetics.specs.declared.Temperatures.{Temperatures}
 use Rattle.stoichiometry.specs.Limits.{mostSeconds}
@@ -16,4 +17,4 @@ temperaturesFit t =
 -- Check 6 of a step: seconds outside 1 to 3,600, light above 10^6, or a temperature factor above 4,000,000.
 unfoldable pub conditionsWrong : Conditions → Bool
 conditionsWrong given =
-    not (leb 1 (given .seconds) && leb (given .seconds) mostSeconds && leb (given .light) 1000000 && temperaturesFit (given .temperatures))
+    not (inRange 1 mostSeconds (given .seconds) && leb (given .light) 1000000 && temperaturesFit (given .temperatures))

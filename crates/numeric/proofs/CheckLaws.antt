@@ -8,10 +8,10 @@ use native.Mathlib.Numerals.{add-one}
 use native.Mathlib.Nat.{lt-suc-self, le-refl, add-zero, add-suc, zero-mul, suc-mul, mul-le-mul, div-lt-iff-lt-mul, le-div-iff-mul-le}
 use native.Mathlib.Decide.{decLt}
 use native.Mathlib.Omega.{arith}
-use lib.Dec.{leb, ltb}
+use lib.Dec.{leb, ltb, eqb}
 use lib.ListN.{length, getD, take}
 use lib.Seq.{take-suc, take-all}
-use borrow.Author.Tests.{leb-true, ltb-true, lt-ltb, le-ltb}
+use borrow.Author.Tests.{ne-eqb, leb-true, ltb-true, lt-ltb, le-ltb}
 use Rattle.numeric.specs.Check.{every, allOf, Check, _when_, firstHolding}
 
 pub and-left : (a b : Bool) → a && b ≡ true → a ≡ true
@@ -174,3 +174,13 @@ none-holds (number when holds ∷ checks) n e =
     let fails = first-zero number holds checks above e in
     let others = sym (first-fails number holds checks fails) ∙ e in
     (fails, none-holds checks (and-right (ltb 0 number) (numbered checks) n) others)
+
+-- Checks after others decide where none of those holds.
+pub first-append : (xs ys : List Check) → numbered xs ≡ true
+    → firstHolding (xs ++ ys) ≡ cond (eqb (firstHolding xs) 0) (firstHolding ys) (firstHolding xs)
+unfolding firstHolding
+first-append [] ys e = refl
+first-append (number when true ∷ xs) ys e =
+    let above = ltb-true 0 number (and-left (ltb 0 number) (numbered xs) e) in
+    rw (ne-eqb number 0 (λ z. omega arith))
+first-append (number when false ∷ xs) ys e = first-append xs ys (and-right (ltb 0 number) (numbered xs) e)

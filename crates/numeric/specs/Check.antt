@@ -1,8 +1,13 @@
--- Checks: a test of every number below n or of every element of a list, and the number of the first check that holds,
--- which is what a call refuses with. Laws: proofs/CheckLaws.antt. No assumptions.
+-- Checks: a number from low to high, a test of every number below n or of every element of a list, and the number of the
+-- first check that holds, which is what a call refuses with. Laws: proofs/CheckLaws.antt. No assumptions.
 use Prim.Native.Nat.{ℕ, zero, suc}
 use mathlib.Core.Bool.{Bool, true, false, _&&_}
 use mathlib.Core.List.{List, [], _∷_}
+use lib.Dec.{leb}
+
+-- A number is from low to high, both included.
+abbrev pub inRange : ℕ → ℕ → ℕ → Bool
+inRange low high x = leb low x && leb x high
 
 -- Every number below n passes the test p.
 unfoldable pub every : ℕ → (ℕ → Bool) → Bool

@@ -1,7 +1,7 @@
 -- What the writes leave in a buffer: one line, the lines of a cell, one cell more, the copy; and the number of a
 -- write by its checks. No assumptions.
 use mathlib.Core.Path.{_≡_, refl, sym, ap, ap₂, _∙_}
-use mathlib.Core.Bool.{Bool, true, false, cond}
+use mathlib.Core.Bool.{true, false}
 use mathlib.Core.List.{List, [], _∷_, _++_, append-assoc, append-nil}
 use Prim.Native.Nat.{ℕ, suc, _+_, _-_, _*_, _≤_, _<_}
 use native.Mathlib.Nat.{zero-add}
@@ -23,7 +23,7 @@ use Rattle.text.proofs.DecimalLaws.{plain-length, decimal-length}
 use Rattle.text.proofs.WriteLaws.{put-length, put-none, put-within, copied-accepted, grow, store}
 use Rattle.record.specs.Lines.{lines, lineBytes, cellBytes, front, line, cellText, recordText, recordOf}
 use Rattle.record.specs.Stages.{lineNumbers}
-use Rattle.record.specs.Writing.{writeNumber, writtenOver}
+use Rattle.record.specs.Writing.{writeNumber, outputAfter, workAfter}
 use Rattle.record.proofs.LineLaws.{front-length, line-length, cell-length}
 use Rattle.record.proofs.LineLaws.{record-bytes}
 
@@ -190,13 +190,23 @@ module _ (r : River) (output work : ℕ) where
   unfolding writeNumber firstHolding
   write-accepted right h l = rw (right, le-ltb output (r .cells * cellBytes) h, le-ltb work (r .cells * cellBytes) l) refl
 
-pub over-refused : (number : ℕ) (r : River) (l : List ℕ) → eqb number 0 ≡ false → writtenOver number r l ≡ l
-unfolding writtenOver
-over-refused number r l e = ap (λ (b : Bool). cond b (put l 0 (recordOf r)) l) e
+-- On refusal every byte of both buffers stays.
+pub output-stays : (number : ℕ) (r : River) (l : List ℕ) → eqb number 0 ≡ false → outputAfter number r l ≡ l
+unfolding outputAfter
+output-stays number r l e = rw e
 
-pub over-written : (r : River) (l : List ℕ) → writtenOver 0 r l ≡ put l 0 (recordOf r)
-unfolding writtenOver
-over-written r l = refl
+pub work-stays : (number : ℕ) (r : River) (l : List ℕ) → eqb number 0 ≡ false → workAfter number r l ≡ l
+unfolding workAfter
+work-stays number r l e = rw e
+
+-- Otherwise both begin with the record.
+pub output-written : (r : River) (l : List ℕ) → outputAfter 0 r l ≡ put l 0 (recordOf r)
+unfolding outputAfter
+output-written r l = refl
+
+pub work-written : (r : River) (l : List ℕ) → workAfter 0 r l ≡ put l 0 (recordOf r)
+unfolding workAfter
+work-written r l = refl
 
 -- The bytes that are copied are the record.
 pub record-copied : (r : River) (o o₁ w w₁ : List ℕ) → r .cells * cellBytes ≤ length o → r .cells * cellBytes ≤ length w

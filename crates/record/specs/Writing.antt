@@ -17,6 +17,10 @@ spaceWrong cells output work = ltb output (cells * cellBytes) || ltb work (cells
 unfoldable pub writeNumber : River → ℕ → ℕ → ℕ
 writeNumber r output work = firstHolding (4 when riverWrong r ∷ 10 when spaceWrong (r .cells) output work ∷ [])
 
--- A buffer after the call: it begins with the river's record and what was past it stays; on refusal every byte stays.
-unfoldable pub writtenOver : ℕ → River → List ℕ → List ℕ
-writtenOver number r before = cond (eqb number 0) (put before 0 (recordOf r)) before
+-- The output after the call: it begins with the river's record and what was past it stays; on refusal every byte stays.
+unfoldable pub outputAfter : ℕ → River → List ℕ → List ℕ
+outputAfter number r before = cond (eqb number 0) (put before 0 (recordOf r)) before
+
+-- The work area after the call: it begins with the same record.
+unfoldable pub workAfter : ℕ → River → List ℕ → List ℕ
+workAfter number r before = cond (eqb number 0) (put before 0 (recordOf r)) before

@@ -1,7 +1,7 @@
 // The record of a river, written into lent bytes.
 ghost use mathlib.Core.Path.{_≡_};
 ghost use lib.ListN.{length};
-ghost use Rattle.record.specs.Writing.{writeNumber, writtenOver};
+ghost use Rattle.record.specs.Writing.{writeNumber, outputAfter, workAfter};
 use crate::writing::write_cells;
 use river::River;
 use river::river_right;
@@ -35,8 +35,8 @@ impl Record {
 // of the first check that holds (4, 10), and then every byte of both is as before.
 pub fn write_record(river: River, output: &mut [u8], work: &mut [u8]) -> u32
     ensures answer { λ r. ⌜ r ≡ writeNumber river (length (now (output .entry))) (length (now (work .entry))) ⌝ }
-    ensures output { λ r. ⌜ now (output .exit) ≡ writtenOver r river (now (output .entry)) ⌝ }
-    ensures work { λ r. ⌜ now (work .exit) ≡ writtenOver r river (now (work .entry)) ⌝ }
+    ensures output { λ r. ⌜ now (output .exit) ≡ outputAfter r river (now (output .entry)) ⌝ }
+    ensures work { λ r. ⌜ now (work .exit) ≡ workAfter r river (now (work .entry)) ⌝ }
 {
     if !river_right(river.cells, &river.amounts, &river.carries) {
         return refusal::RIVER;

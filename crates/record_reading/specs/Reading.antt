@@ -4,10 +4,10 @@
 use Prim.Native.Nat.{ℕ, _+_, _-_, _*_, _/_, _%_}
 use mathlib.Core.Bool.{Bool, true, false, not, _&&_, cond}
 use mathlib.Core.List.{List, [], _∷_}
-use lib.Dec.{leb, ltb, eqb}
+use lib.Dec.{ltb, eqb}
 use lib.ListN.{length}
 use lib.IntN.{ℤ, pos, negℤ, natAbs}
-use Rattle.numeric.specs.Check.{every, firstHolding, _when_}
+use Rattle.numeric.specs.Check.{inRange, every, firstHolding, _when_}
 use Rattle.numeric.specs.Table.{tab}
 use Rattle.stoichiometry.specs.Substances.{substances, mostNet}
 use Rattle.stoichiometry.specs.Rows.{processes}
@@ -79,7 +79,7 @@ readAnswer t =
 -- The lines of one cell, counted from 1: the number, 11 before 5, and that part of the text, empty on refusal.
 unfoldable pub cellNumber : List ℕ → ℕ → ℕ
 cellNumber t cell =
-    firstHolding (11 when not (isRecord t) ∷ 5 when not (leb 1 cell && leb cell (cellsIn t)) ∷ [])
+    firstHolding (11 when not (isRecord t) ∷ 5 when not (inRange 1 (cellsIn t) cell) ∷ [])
 
 unfoldable pub cellLines : List ℕ → ℕ → List ℕ
 cellLines t cell = cond (eqb (cellNumber t cell) 0) (part ((cell - 1) * cellBytes) cellBytes t) []

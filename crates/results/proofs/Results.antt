@@ -18,7 +18,7 @@ use Rattle.stoichiometry.specs.declared.RateConstants.{RateConstants}
 use Rattle.stoichiometry.specs.declared.Set.{Set}
 use Rattle.stoichiometry.specs.Substances.{substances, Total, contents}
 use Rattle.stoichiometry.specs.Levels.{levelOf}
-use Rattle.stoichiometry.specs.Parameters.{addsUp, inRange, fractionsWrong, figuresWrong, yieldsFit, constantsFit}
+use Rattle.stoichiometry.specs.Parameters.{addsUp, fractionsWrong, figuresWrong, yieldsFit, constantsFit}
 use Rattle.stoichiometry.specs.Parameters.{publishedSet}
 use Rattle.stoichiometry.specs.Rows.{Process, entry, oxygenChange, row, processesOf, processAt, rowEntry, rowsOf}
 use Rattle.stoichiometry.specs.Sets.{Accepted, rowsWrong, setNumber, zeroSet, publishedAnswer}
@@ -105,7 +105,7 @@ process-balance = Balance.process-balance
 
 -- Every case that document 01 stars comes out as stated.
 pub starred-hold : AllHold starred
-unfolding starred every allOf firstHolding sum tab fractionsWrong addsUp figuresWrong inRange yieldsFit constantsFit
+unfolding starred every allOf firstHolding sum tab fractionsWrong addsUp figuresWrong yieldsFit constantsFit
     publishedAnswer rowsWrong setNumber entry oxygenChange row processesOf processAt rowEntry rowsOf rowsAnswer
     share times takesPhosphate takesNitrogen ratesOf rateAt productAt quotaAt extentAt temperaturesFit
     conditionsWrong freshAnswer cellsFit lowestAt highestAt amountFits amountsFit carriesFit riverWrong cellExists

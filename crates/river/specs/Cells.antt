@@ -2,7 +2,7 @@
 -- letter, record"). No assumptions.
 use Prim.Native.Nat.{ℕ, _-_}
 use mathlib.Core.Bool.{not, cond}
-use mathlib.Core.List.{List, [], _∷_}
+use mathlib.Core.List.{List, [], _∷_, _++_}
 use lib.Dec.{ltb, eqb}
 use lib.IntN.{ℤ, pos}
 use Rattle.numeric.specs.Check.{firstHolding, _when_}
@@ -10,8 +10,7 @@ use Rattle.numeric.specs.Sum.{sum}
 use Rattle.stoichiometry.specs.declared.Set.{Set}
 use Rattle.stoichiometry.specs.Substances.{substances, Total, carbon, hydrogen, oxygen, nitrogen, phosphorus, charge, contents, o2, nh4, place}
 use Rattle.stoichiometry.specs.Levels.{levelOf}
-use Rattle.stoichiometry.specs.Parameters.{fractionsWrong, figuresWrong}
-use Rattle.stoichiometry.specs.Sets.{rowsWrong}
+use Rattle.stoichiometry.specs.Sets.{setChecks}
 use Rattle.river.specs.declared.River.{River}
 use Rattle.river.specs.declared.Totals.{Totals}
 use Rattle.river.specs.declared.Letter.{Letter}
@@ -23,8 +22,7 @@ cellTotal set t amounts c = sum substances (λ s. contents set t s (amountAt amo
 
 unfoldable pub totalsNumber : Set → River → ℕ → ℕ
 totalsNumber set r cell =
-    firstHolding
-    (1 when fractionsWrong set ∷ 2 when figuresWrong set ∷ 3 when rowsWrong set ∷ 4 when riverWrong r ∷ 5 when not (cellExists r cell) ∷ [])
+    firstHolding (setChecks set ++ (4 when riverWrong r ∷ 5 when not (cellExists r cell) ∷ []))
 
 -- The six totals of a cell, grains; on refusal the number and zeros.
 unfoldable pub totalsAnswer : Set → River → ℕ → Totals

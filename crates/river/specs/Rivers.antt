@@ -7,7 +7,7 @@ use lib.Dec.{leb, ltb, eqb}
 use lib.ListN.{getD, replicate}
 use lib.IntN.{ℤ, pos, negℤ, natAbs}
 use lib.Signed.{leZ}
-use Rattle.numeric.specs.Check.{every, firstHolding, _when_}
+use Rattle.numeric.specs.Check.{inRange, every, firstHolding, _when_}
 use Rattle.stoichiometry.specs.Substances.{substances, Substance, organic, nh4, no2, no3, hpo4, o2, hco3, hPlus, xp, h2o, n2, order, mostOrganic, mostGrains, mostNet}
 use Rattle.stoichiometry.specs.Rows.{processes}
 use Rattle.river.specs.declared.River.{River}
@@ -79,7 +79,7 @@ carriesFit n carries =
 
 -- A river is of 1 to 8 cells.
 unfoldable pub cellsFit : ℕ → Bool
-cellsFit n = leb 1 n && leb n mostCells
+cellsFit = inRange 1 mostCells
 
 -- A river of these parts is of 1 to 8 cells, its amounts and carries are in their bounds, and beyond its last cell are
 -- zeros.
@@ -93,10 +93,10 @@ riverWrong r = not (riverRight (r .cells) (r .amounts) (r .carries))
 
 -- A cell of the river by its number, 1 to the number of cells; a substance by its number, 1 to 18.
 unfoldable pub cellExists : River → ℕ → Bool
-cellExists r cell = leb 1 cell && leb cell (r .cells)
+cellExists r = inRange 1 (r .cells)
 
 unfoldable pub substanceExists : ℕ → Bool
-substanceExists substance = leb 1 substance && leb substance substances
+substanceExists = inRange 1 substances
 
 -- A river of n cells, all zeros.
 abbrev pub zeroRiver : ℕ → River

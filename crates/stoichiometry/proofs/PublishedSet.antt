@@ -10,7 +10,7 @@ use Rattle.numeric.specs.Check.{every, allOf, firstHolding}
 use Rattle.stoichiometry.specs.declared.HalfSaturations.{HalfSaturations}
 use Rattle.stoichiometry.specs.declared.Published.{Published}
 use Rattle.stoichiometry.specs.declared.RateConstants.{RateConstants}
-use Rattle.stoichiometry.specs.Parameters.{addsUp, inRange, yieldsFit, constantsFit, fractionsWrong}
+use Rattle.stoichiometry.specs.Parameters.{addsUp, yieldsFit, constantsFit, fractionsWrong}
 use Rattle.stoichiometry.specs.Parameters.{figuresWrong, publishedSet}
 use Rattle.stoichiometry.specs.Rows.{entry, oxygenChange, row, processesOf, processAt, rowEntry}
 use Rattle.stoichiometry.specs.Sets.{Accepted, rowsWrong, zeroSet, publishedAnswer}
@@ -26,7 +26,7 @@ module _ (k : RateConstants) (h : HalfSaturations) where
   fractions-right = refl
 
   figures-right : constantsFit k h ≡ true → figuresWrong (publishedSet k h) ≡ false
-  unfolding figuresWrong yieldsFit inRange allOf
+  unfolding figuresWrong yieldsFit allOf
   figures-right e = rw e
 
   rows-right : rowsWrong (publishedSet k h) ≡ false

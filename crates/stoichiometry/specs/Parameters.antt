@@ -3,8 +3,8 @@
 use Prim.Native.Nat.{ℕ, _+_}
 use mathlib.Core.Bool.{Bool, not, _&&_}
 use mathlib.Core.List.{List, [], _∷_}
-use lib.Dec.{leb, eqb}
-use Rattle.numeric.specs.Check.{allOf}
+use lib.Dec.{eqb}
+use Rattle.numeric.specs.Check.{inRange, allOf}
 use Rattle.stoichiometry.specs.declared.Fractions.{Fractions}
 use Rattle.stoichiometry.specs.declared.Organics.{Organics}
 use Rattle.stoichiometry.specs.declared.Yields.{Yields}
@@ -22,10 +22,6 @@ addsUp f = eqb (f .carbon + f .hydrogen + f .oxygen + f .nitrogen + f .phosphoru
 -- Check 1: the fractions of some organic do not.
 unfoldable pub fractionsWrong : Set → Bool
 fractionsWrong set = not (allOf (λ o. addsUp (fractionsOf set o)) organics)
-
--- A figure is from low to high, both included.
-unfoldable pub inRange : ℕ → ℕ → ℕ → Bool
-inRange low high x = leb low x && leb x high
 
 abbrev pub yieldList : Yields → List ℕ
 yieldList y = y .aerobic ∷ y .nitrate ∷ y .nitrite ∷ y .xn1 ∷ y .xn2 ∷ y .death ∷ y .hydrolysis ∷ []

@@ -2,12 +2,12 @@
 -- and the answer of `Set::published`. The answer of the rows: crate rows. No assumptions.
 use Prim.Native.Nat.{ℕ}
 use mathlib.Core.Bool.{Bool, true, not, _&&_, cond}
-use mathlib.Core.List.{[], _∷_}
+use mathlib.Core.List.{List, [], _∷_}
 use mathlib.Core.Path.{_≡_}
 use lib.Dec.{eqb}
 use lib.IntN.{pos}
 use lib.Signed.{leZ, ltZ}
-use Rattle.numeric.specs.Check.{every, firstHolding, _when_}
+use Rattle.numeric.specs.Check.{every, Check, firstHolding, _when_}
 use Rattle.stoichiometry.specs.declared.RateConstants.{RateConstants}
 use Rattle.stoichiometry.specs.declared.HalfSaturations.{HalfSaturations}
 use Rattle.stoichiometry.specs.declared.Set.{Set}
@@ -28,9 +28,13 @@ askedMet set p unasked = true
 unfoldable pub rowsWrong : Set → Bool
 rowsWrong set = not (every processes (λ p. askedMet set p (processAt set p .asked)))
 
+-- The checks of a set, in checking order.
+abbrev pub setChecks : Set → List Check
+setChecks set = 1 when fractionsWrong set ∷ 2 when figuresWrong set ∷ 3 when rowsWrong set ∷ []
+
 -- The number of a set, 0 for none.
 unfoldable pub setNumber : Set → ℕ
-setNumber set = firstHolding (1 when fractionsWrong set ∷ 2 when figuresWrong set ∷ 3 when rowsWrong set ∷ [])
+setNumber set = firstHolding (setChecks set)
 
 -- No check of a set holds of it.
 abbrev pub Accepted : Set → Type 0

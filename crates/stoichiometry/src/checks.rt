@@ -1,7 +1,7 @@
 // Checks 1 and 2 of a set.
 ghost use mathlib.Core.Path.{_≡_};
-ghost use Rattle.numeric.specs.Check.{allOf};
-ghost use Rattle.stoichiometry.specs.Parameters.{addsUp, fractionsWrong, inRange, yieldsFit, constantsFit, figuresWrong};
+ghost use Rattle.numeric.specs.Check.{inRange, allOf};
+ghost use Rattle.stoichiometry.specs.Parameters.{addsUp, fractionsWrong, yieldsFit, constantsFit, figuresWrong};
 use crate::Fractions;
 use crate::HalfSaturations;
 use crate::InertFractions;

@@ -2,7 +2,7 @@
 -- small enough to be added in 64 bits; the answer by cases of its number, where it is what the code adds up. No
 -- assumptions.
 use Prim.Native.Nat.{ℕ, zero, suc, _<_, _≤_, _+_, _*_, _-_, _^_}
-use mathlib.Core.Bool.{Bool, true, false, not, cond}
+use mathlib.Core.Bool.{true, false, not, cond}
 use mathlib.Core.List.{List, [], _∷_, map}
 use mathlib.Core.Path.{_≡_, refl, sym, ap, _∙_}
 use native.Mathlib.Omega.{arith}
@@ -18,15 +18,15 @@ use Rattle.numeric.specs.Check.{every, allOf, Check, _when_, firstHolding}
 use Rattle.numeric.specs.Sum.{sum}
 use Rattle.numeric.specs.Table.{tab}
 use Rattle.numeric.proofs.Bounds.{fits-abs, abs-add, abs-mul-le, abs-between}
-use Rattle.numeric.proofs.CheckLaws.{every-at, allOf-at, first-nil, first-holds, first-fails}
+use Rattle.numeric.proofs.CheckLaws.{every-at, allOf-at, first-nil, first-holds, first-fails, first-append}
 use Rattle.numeric.proofs.Machine.{kept, kept-is}
 use Rattle.numeric.proofs.SumLaws.{sum-more, added, sum-within, added-le}
 use Rattle.numeric.proofs.TableLaws.{getD-tab, AtMost, done, _also_, at-most-at}
 use Rattle.stoichiometry.specs.declared.Fractions.{Fractions}
 use Rattle.stoichiometry.specs.declared.Set.{Set}
 use Rattle.stoichiometry.specs.Substances.{substances, Organic, ss, si, xh, xn1, xn2, xalg, xs, xi, Substance, organic, nh4, no2, no3, hpo4, o2, hco3, hPlus, xp, h2o, n2, order, organics, fractionsOf, Composition, organicComposition, compositionOf, heldAt, contents}
-use Rattle.stoichiometry.specs.Parameters.{addsUp, fractionsWrong, figuresWrong}
-use Rattle.stoichiometry.specs.Sets.{rowsWrong, setNumber}
+use Rattle.stoichiometry.specs.Parameters.{addsUp, fractionsWrong}
+use Rattle.stoichiometry.specs.Sets.{setChecks, setNumber}
 use Rattle.river.specs.declared.River.{River}
 use Rattle.river.specs.Rivers.{highest, lowestAt, highestAt, amountFits, amountAt, riverWrong, cellExists}
 use Rattle.river.specs.Cells.{cellTotal, totalsNumber, totalsAnswer}
@@ -198,23 +198,14 @@ cell-addable set r e right c h =
           };
     }
 
--- The number of the totals by that of the set.
-number-split : (a b c : Bool) (rest : List Check)
-    → let n = firstHolding (1 when a ∷ 2 when b ∷ 3 when c ∷ []) in
-    firstHolding (1 when a ∷ 2 when b ∷ 3 when c ∷ rest) ≡ cond (eqb n 0) (firstHolding rest) n
-unfolding firstHolding
-number-split true b c rest = refl
-number-split false true c rest = refl
-number-split false false true rest = refl
-number-split false false false rest = refl
-
 module _ (set : Set) (r : River) (cell : ℕ) where
   abbrev others : List Check
   others = 4 when riverWrong r ∷ 5 when not (cellExists r cell) ∷ []
 
+  -- The number of the totals by that of the set.
   by-set : totalsNumber set r cell ≡ cond (eqb (setNumber set) 0) (firstHolding others) (setNumber set)
   unfolding totalsNumber setNumber
-  by-set = number-split (fractionsWrong set) (figuresWrong set) (rowsWrong set) others
+  by-set = first-append (setChecks set) others refl
 
   refused : (n : ℕ) → (n ≡ 0 → ⊥) → totalsNumber set r cell ≡ n → totalsAnswer set r cell ≡ refusedTotals n
   unfolding totalsAnswer

@@ -5,7 +5,7 @@ use mathlib.Core.List.{[], _∷_}
 use lib.Dec.{leb, eqb}
 use lib.IntN.{ℤ, pos, _+ℤ_, _-ℤ_, _*ℤ_}
 use lib.Signed.{quotZ}
-use Rattle.numeric.specs.Check.{firstHolding, _when_}
+use Rattle.numeric.specs.Check.{inRange, firstHolding, _when_}
 use Rattle.stoichiometry.specs.Substances.{o2, place, grainsPerMicrogramO}
 use Rattle.stoichiometry.specs.Levels.{levelOf}
 use Rattle.river.specs.declared.River.{River}
@@ -33,7 +33,7 @@ airedAmount r c k seconds saturation = amountAt (r .amounts) c (place o2) +ℤ g
 
 -- Check 6 of air.
 unfoldable pub airFigureWrong : ℕ → ℕ → ℕ → Bool
-airFigureWrong k seconds saturation = not (leb k 20000 && (leb 1 seconds && leb seconds mostSeconds) && leb saturation mostSaturation)
+airFigureWrong k seconds saturation = not (leb k 20000 && inRange 1 mostSeconds seconds && leb saturation mostSaturation)
 
 -- 8 is stated as for every call; a law shows that it never comes.
 unfoldable pub airNumber : River → ℕ → ℕ → ℕ → ℕ → ℕ

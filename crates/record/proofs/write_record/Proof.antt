@@ -7,7 +7,8 @@ use Rattle.river.specs.Rivers.{riverWrong}
 use Rattle.river.proofs.Rivers.{wrong-tested, river-cells}
 use Rattle.text.specs.Writes.{put}
 use Rattle.record.specs.Lines.{recordOf}
-use Rattle.record.proofs.Written.{river-refused, output-refused, work-refused, write-accepted, over-refused, over-written, record-copied}
+use Rattle.record.proofs.Written.{river-refused, output-refused, work-refused, write-accepted, record-copied}
+use Rattle.record.proofs.Written.{output-stays, work-stays, output-written, work-written}
 use borrow.Author.Needs.{needs}
 use Rattle.record.proofs.write_record.Statement.{statement}
 use Rattle.record.proofs.write_record.Tie as tie
@@ -29,20 +30,20 @@ returns c =
     let args = begun tested .args in
     let r = args .t1 in
     let holds = wrong tested ∙ c .if1 .taken in
-    (sym (river-refused r (length (args .output .now)) (length (args .work .now)) holds), (sym (over-refused 4 r (args .output .now) refl), sym (over-refused 4 r (args .work .now) refl)))
+    (sym (river-refused r (length (args .output .now)) (length (args .work .now)) holds), (sym (output-stays 4 r (args .output .now) refl), sym (work-stays 4 r (args .work .now) refl)))
 
 returns-2 : tie.Need-returns-2
 returns-2 c =
     let args = begun (c .before .before) .args in
     let r = args .t1 in
-    (sym (output-refused r (length (args .output .now)) (length (args .work .now)) (right (c .before)) (c .if2 .taken)), (sym (over-refused 10 r (args .output .now) refl), sym (over-refused 10 r (args .work .now) refl)))
+    (sym (output-refused r (length (args .output .now)) (length (args .work .now)) (right (c .before)) (c .if2 .taken)), (sym (output-stays 10 r (args .output .now) refl), sym (work-stays 10 r (args .work .now) refl)))
 
 returns-3 : tie.Need-returns-3
 returns-3 c =
     let left = c .before in
     let args = begun (left .before .before) .args in
     let r = args .t1 in
-    (sym (work-refused r (length (args .output .now)) (length (args .work .now)) (right (left .before)) (left .if2 .left) (c .if3 .taken)), (sym (over-refused 10 r (args .output .now) refl), sym (over-refused 10 r (args .work .now) refl)))
+    (sym (work-refused r (length (args .output .now)) (length (args .work .now)) (right (left .before)) (left .if2 .left) (c .if3 .taken)), (sym (output-stays 10 r (args .output .now) refl), sym (work-stays 10 r (args .work .now) refl)))
 
 write-cells-requires : tie.Need-write-cells-requires
 write-cells-requires c κs =
@@ -61,7 +62,7 @@ returns-4 c =
     let filled : written .write-cells .last .0 ≡ put (args .output .now) 0 (recordOf r) = written .write-cells .ensures in
     let number = write-accepted r (length (args .output .now)) (length (args .work .now)) (right (room .before)) (room .if2 .left) (space .if3 .left) in
     let work = record-copied r (args .output .now) (written .write-cells .last .0) (args .work .now) (copied .copy-bytes .last .1 .1 .0) (room .if2 .left) (space .if3 .left) filled (copied .copy-bytes .ensures) in
-    (sym number, (filled ∙ sym (over-written r (args .output .now)), work ∙ sym (over-written r (args .work .now))))
+    (sym number, (filled ∙ sym (output-written r (args .output .now)), work ∙ sym (work-written r (args .work .now))))
 
 pub write-record-spec : {M : Type 1} → statement M
 write-record-spec =

@@ -7,9 +7,8 @@ use mathlib.Core.Path.{_≡_, sym}
 use native.Mathlib.Omega.{arith}
 use lib.ListN.{length, take}
 use borrow.Author.Tests.{le-leb, lt-leb}
-use Rattle.numeric.specs.Check.{allOf}
+use Rattle.numeric.specs.Check.{inRange, allOf}
 use Rattle.numeric.proofs.CheckLaws.{allOf-nil, allOf-more, allOf-fails, allOf-done}
-use Rattle.stoichiometry.specs.Parameters.{inRange}
 use Rattle.stoichiometry.proofs.checks.all_in_range.Statement.{statement}
 use Rattle.stoichiometry.proofs.checks.all_in_range.Tie as tie
 
@@ -24,20 +23,17 @@ loop-holds c = (omega arith, allOf-nil _)
 
 -- A figure below the range.
 returns : tie.Need-returns Inv-loop μ-loop
-unfolding inRange
 returns c =
     let at-loop = c .before .before .before in
     sym (allOf-fails _ _ (at-loop .loop .i) 0 (omega arith) (rw (lt-leb _ _ (c .if1 .taken))))
 
 -- A figure above it.
 returns-2 : tie.Need-returns-2 Inv-loop μ-loop
-unfolding inRange
 returns-2 c =
     let at-loop = c .before .before .before .before in
     sym (allOf-fails _ _ (at-loop .loop .i) 0 (omega arith) (rw (lt-leb _ _ (c .if2 .taken), and-false)))
 
 loop-again : tie.Need-loop-again Inv-loop μ-loop
-unfolding inRange
 loop-again c =
     let at-loop = c .before .before .before .before in
     let more = allOf-more _ _ (at-loop .loop .i) 0 (omega arith) (at-loop .loop .inv .1) in
