@@ -5,7 +5,7 @@ use Prim.Native.Nat.{ℕ, zero, suc, _+_, _*_, _-_, _<_}
 use mathlib.Core.List.{List, [], _∷_}
 use mathlib.Core.Path.{_≡_, refl, ap, ap₂, _∙_}
 use native.Mathlib.Omega.{arith}
-use lib.Arith.{digits-div, digits-mod}
+use lib.Arith.{digits-div}
 use lib.ListN.{set, length}
 use lib.Seq.{getD-set-same, getD-set-other}
 use lib.IntN.{ℤ, pos, _+ℤ_, _-ℤ_, _*ℤ_, +ℤ-idr, *ℤ-zero}
@@ -14,6 +14,7 @@ use Rattle.numeric.specs.Sum.{sum}
 use Rattle.numeric.proofs.Expression.{v, _⊕_, _⊖_, _⊗_}
 use Rattle.numeric.proofs.Ring.{solve}
 use Rattle.numeric.proofs.SumLaws.{sum-eq, sum-zero, sum-add, sum-sub, sum-scale, sum-change, sum-exchange}
+use Rattle.numeric.proofs.GridLaws.{grid-at}
 use Rattle.numeric.proofs.TableLaws.{getD-tab}
 use Rattle.stoichiometry.specs.declared.Set.{Set}
 use Rattle.stoichiometry.specs.Substances.{substances, Total, contents, heldAt}
@@ -58,8 +59,7 @@ stepped-at : (set : Set) (given : Conditions) (r : River) (c s : ℕ) → c < r 
     ≡ newAmount set given (amountAt (r .amounts) c) (carryAt (r .carries) c) s
 unfolding steppedAmounts
 stepped-at set given r c s h l j =
-    getD-tab (mostCells * substances) _ (c * substances + s) (pos 0) (omega arith)
-    ∙ rw (digits-div c j, digits-mod c j, lt-ltb c (r .cells) h)
+    grid-at mostCells substances (r .cells) (pos 0) _ c s (pos 0) h l j
 
 module _ (set : Set) (t : Total) where
   contents-scale : (k : ℕ) (b x : ℤ) → contents set t k (b *ℤ x) ≡ b *ℤ contents set t k x

@@ -14,6 +14,8 @@ use lib.Seq.{getD-set-same, getD-set-other}
 use lib.IntN.{ℤ, pos, natAbs}
 use borrow.Author.Tests.{le-leb, lt-ltb}
 use Rattle.numeric.proofs.CheckLaws.{every-at, every-all}
+use Rattle.numeric.specs.Table.{grid}
+use Rattle.numeric.proofs.GridLaws.{grid-length}
 use Rattle.numeric.proofs.TableLaws.{tab-length, getD-tab}
 use Rattle.stoichiometry.specs.declared.Set.{Set}
 use Rattle.stoichiometry.specs.Substances.{substances}
@@ -82,7 +84,7 @@ carry-case x false = refl
 
 module _ (set : Set) (given : Conditions) where
   stepped-carries-fit : (r : River) → carriesFit (r .cells) (steppedCarries set given r) ≡ true
-  unfolding carriesFit steppedCarries newCarry
+  unfolding carriesFit steppedCarries newCarry grid
   stepped-carries-fit r =
       every-all (mostCells * processes) _
       (λ k l. rw (getD-tab {A = ℕ} (mostCells * processes) _ k 0 l) (carry-case _ (ltb (k / processes) (r .cells))))
@@ -93,7 +95,7 @@ module _ (set : Set) (given : Conditions) where
   unfolding steppedAmounts
   sound-step n r s e =
       sound-again n r s (steppedAmounts set given r) (steppedCarries set given r)
-      (tab-length (mostCells * substances) _) e (stepped-carries-fit r)
+      (grid-length mostCells substances (r .cells) (pos 0) _) e (stepped-carries-fit r)
 
 -- A flow that check 8 lets pass.
 pub sound-flow : (n : ℕ) (r : River) → Sound n r → (left : List ℤ)

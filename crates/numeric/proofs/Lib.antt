@@ -1,5 +1,5 @@
 -- Laws by subject: differences and expressions of integers, the ring normaliser, bounds, quotients, comparisons, what
--- fits 64 bits, machine expressions, joined bits, sizes, tables, filling loops, sums, checks, tables
+-- fits 64 bits, machine expressions, joined bits, sizes, tables, filling loops, sums, checks, grids, tables
 -- of cases.
 pub mod Difference
 pub mod Expression
@@ -16,4 +16,5 @@ pub mod TableLaws
 pub mod Filling
 pub mod SumLaws
 pub mod CheckLaws
+pub mod GridLaws
 pub mod CaseLaws

@@ -1,21 +1,18 @@
 -- What the reading loops find: the value on a line of a text, its range, a line more, a cell more. No assumptions.
 use mathlib.Core.Path.{_≡_, ap}
-use mathlib.Core.Bool.{true, cond}
+use mathlib.Core.Bool.{true}
 use mathlib.Core.List.{List}
-use Prim.Native.Nat.{ℕ, _+_, _-_, _*_, _/_, _%_, _≤_, _<_}
+use Prim.Native.Nat.{ℕ, _+_, _-_, _*_, _≤_, _<_}
 use native.Mathlib.Omega.{arith}
 use borrow.Author.Tests.{lt-ltb, le-ltb}
-use lib.Dec.{ltb, lit<}
-use lib.IntN.{ℤ, pos, natAbs}
+use lib.IntN.{pos, natAbs}
 use lib.ListN.{set}
 use lib.Signed.{_≤ℤ_}
 use Rattle.numeric.specs.Table.{run}
 use Rattle.numeric.proofs.Bounds.{abs-from, abs-of-nonneg}
-use Rattle.numeric.proofs.CheckLaws.{row-beyond}
 use Rattle.numeric.proofs.Comparison.{leZ-true}
 use Rattle.numeric.proofs.Filling.{run-more}
 use Rattle.stoichiometry.specs.Substances.{substances, mostNet}
-use Rattle.stoichiometry.specs.Rows.{processes}
 use Rattle.text.specs.Blocks.{part}
 use Rattle.record.specs.Lines.{lines, lineBytes, cellBytes}
 use Rattle.record_reading.specs.Reading.{lineNumber, lowestOn, highestOn, valueAt}
@@ -78,29 +75,3 @@ module _ {A : Type 0} (l m : List A) (b k : ℕ) (f : ℕ → A) where
   carries-kept h e =
       let same : k - substances ≡ k + 1 - substances = omega arith in
       rw same at e
-
--- Amount i and carry i of a text of n cells, and what they are in a cell and beyond the last.
-module _ (n : ℕ) (t : List ℕ) where
-  abbrev pub amountIn : ℕ → ℤ
-  amountIn i = cond (ltb (i / substances) n) (valueAt t (i / substances) (i % substances) .value) (pos 0)
-
-  abbrev pub carryIn : ℕ → ℕ
-  carryIn i = cond (ltb (i / processes) n) (natAbs (valueAt t (i / processes) (substances + i % processes) .value)) 0
-
-  pub amount-in : (c k : ℕ) → c < n → k < substances → valueAt t c k .value ≡ amountIn (c * substances + k)
-  amount-in c k h l =
-      let cell : (c * substances + k) / substances ≡ c = omega arith in
-      let place : (c * substances + k) % substances ≡ k = omega arith in
-      rw (cell, place, lt-ltb c n h)
-
-  pub amount-beyond : (i : ℕ) → n * substances ≤ i → amountIn i ≡ pos 0
-  amount-beyond i h = rw (row-beyond substances n i (lit< tt) h)
-
-  pub carry-in : (c p : ℕ) → c < n → p < processes → natAbs (valueAt t c (substances + p) .value) ≡ carryIn (c * processes + p)
-  carry-in c p h l =
-      let cell : (c * processes + p) / processes ≡ c = omega arith in
-      let place : (c * processes + p) % processes ≡ p = omega arith in
-      rw (cell, place, lt-ltb c n h)
-
-  pub carry-beyond : (i : ℕ) → n * processes ≤ i → carryIn i ≡ 0
-  carry-beyond i h = rw (row-beyond processes n i (lit< tt) h)

@@ -1,28 +1,27 @@
 -- Laws of records. Of a river of which check 4 does not hold: its record is read back to it (`read-write`). Of a text
 -- that is a record: it is what is written of the river that it reads to (`write-read`). Texts of any numbers of cells
 -- and lines: TextLaws.antt. No assumptions.
-use Prim.Native.Nat.{ℕ, _+_, _-_, _*_, _/_, _%_, _≤_, _<_}
-use mathlib.Core.Bool.{true, false, not, _&&_, cond, true≢false}
+use Prim.Native.Nat.{ℕ, _+_, _-_, _*_, _≤_, _<_}
+use mathlib.Core.Bool.{true, false, not, _&&_, true≢false}
 use mathlib.Core.List.{List}
 use mathlib.Core.Path.{_≡_, refl, sym, ap, ap₂, _∙_}
 use native.Mathlib.Decide.{decLt}
-use native.Mathlib.Nat.{div-add-mod'}
 use native.Mathlib.Omega.{arith}
 use borrow.Author.Tests.{lt-ltb, le-ltb, le-leb, eq-eqb, eqb-true, not-true}
-use lib.Dec.{ltb, eqb, lit<}
+use lib.Dec.{eqb, lit<}
 use lib.IntN.{ℤ, pos, negsuc, natAbs}
-use lib.ListN.{length, getD}
+use lib.ListN.{length}
 use lib.Signed.{leZ}
 use Rattle.numeric.specs.Check.{every}
 use Rattle.numeric.proofs.Bounds.{abs-le, abs-ge}
 use Rattle.numeric.proofs.CheckLaws.{and-left, and-right, every-at, every-all}
 use Rattle.numeric.proofs.Comparison.{le-leZ}
-use Rattle.numeric.proofs.TableLaws.{getD-tab, tab-eq, tab-of-list}
+use Rattle.numeric.proofs.GridLaws.{grid-at, grid-eq, grid-of-list}
 use Rattle.stoichiometry.specs.Substances.{substances, mostNet}
 use Rattle.stoichiometry.specs.Rows.{processes}
 use Rattle.river.specs.declared.Changed.{Changed}
 use Rattle.river.specs.declared.River.{River}
-use Rattle.river.specs.Rivers.{mostCells, cellsFit, riverWrong, mostCarry}
+use Rattle.river.specs.Rivers.{mostCells, carryAt, cellsFit, riverWrong, mostCarry}
 use Rattle.river.proofs.Bounds.{fits-bound}
 use Rattle.river.proofs.Rivers.{river-cells, amount-fits-at, carry-fits-at, amount-zero-beyond, carry-zero-beyond}
 use Rattle.text_reading.specs.declared.Number.{Number}
@@ -86,40 +85,25 @@ module _ (r : River) (right : riverWrong r ≡ false) where
   amounts-back : length (r .amounts) ≡ mostCells * substances → amountsIn (r .cells) (recordOf r) ≡ r .amounts
   unfolding amountsIn
   amounts-back long =
-      tab-eq (mostCells * substances) (λ (i : ℕ). _) (λ (i : ℕ). getD (r .amounts) i (pos 0))
-      (λ i l. at i l (decLt (i / substances) (r .cells)))
-      ∙ sym (tab-of-list (mostCells * substances) (pos 0) (r .amounts) long)
-    where
-      at : (i : ℕ) → i < mostCells * substances → Dec (i / substances < r .cells)
-          → cond (ltb (i / substances) (r .cells))
-          (valueAt (recordOf r) (i / substances) (i % substances) .value) (pos 0)
-          ≡ getD (r .amounts) i (pos 0)
-      at i l (yes y) =
-          rw (lt-ltb (i / substances) (r .cells) y, value-written (i / substances) (i % substances) y (omega arith))
-          (value-amount (r .amounts) (r .carries) (i / substances) (i % substances) (omega arith)
-          ∙ ap (λ (j : ℕ). getD (r .amounts) j (pos 0)) (div-add-mod' i substances))
-      at i l (no g) =
-          rw (le-ltb (i / substances) (r .cells) (omega arith)) (sym (amount-zero-beyond r right i (omega arith) l))
+      grid-eq mostCells substances (r .cells) (pos 0) _ _ (lit< tt)
+      (λ c k h l.
+      ap (λ (m : Number). m .value) (value-written c k h (omega arith)) ∙ value-amount (r .amounts) (r .carries) c k l)
+      ∙ sym
+      (grid-of-list mostCells substances (r .cells) (pos 0) (r .amounts) (lit< tt) long
+      (λ i h l. amount-zero-beyond r right i h l))
 
   carries-back : length (r .carries) ≡ mostCells * processes → carriesIn (r .cells) (recordOf r) ≡ r .carries
   unfolding carriesIn
   carries-back long =
-      tab-eq (mostCells * processes) (λ (i : ℕ). _) (λ (i : ℕ). getD (r .carries) i 0)
-      (λ i l. at i l (decLt (i / processes) (r .cells)))
-      ∙ sym (tab-of-list (mostCells * processes) 0 (r .carries) long)
-    where
-      at : (i : ℕ) → i < mostCells * processes → Dec (i / processes < r .cells)
-          → cond (ltb (i / processes) (r .cells))
-          (natAbs (valueAt (recordOf r) (i / processes) (substances + i % processes) .value)) 0
-          ≡ getD (r .carries) i 0
-      at i l (yes y) =
-          let k = substances + i % processes in
-          let place : i / processes * processes + (k - substances) ≡ i = omega arith in
-          rw (lt-ltb (i / processes) (r .cells) y, value-written (i / processes) k y (omega arith))
-          (ap natAbs (value-carry (r .amounts) (r .carries) (i / processes) k (omega arith))
-          ∙ ap (λ (j : ℕ). getD (r .carries) j 0) place)
-      at i l (no g) =
-          rw (le-ltb (i / processes) (r .cells) (omega arith)) (sym (carry-zero-beyond r right i (omega arith) l))
+      grid-eq mostCells processes (r .cells) 0 _ _ (lit< tt)
+      (λ c p h l.
+      let place : substances + p - substances ≡ p = omega arith in
+      ap (λ (m : Number). natAbs (m .value)) (value-written c (substances + p) h (omega arith))
+      ∙ ap natAbs (value-carry (r .amounts) (r .carries) c (substances + p) (omega arith))
+      ∙ ap (λ (q : ℕ). carryAt (r .carries) c q) place)
+      ∙ sym
+      (grid-of-list mostCells processes (r .cells) 0 (r .carries) (lit< tt) long
+      (λ i h l. carry-zero-beyond r right i h l))
 
 -- A river in bounds, of arrays of their lengths.
 module _ (r : River) (right : riverWrong r ≡ false) (amounts : length (r .amounts) ≡ mostCells * substances)
@@ -204,20 +188,13 @@ module _ (t : List ℕ) (right : isRecord t ≡ true) where
   unfolding riverIn amountsIn carriesIn
   value-read c k h l (yes y) =
       let most = river-cells (riverIn t) river-read .1 in
-      let i = c * substances + k in
-      let cell : i / substances ≡ c = omega arith in
-      let place : i % substances ≡ k = omega arith in
       value-amount (riverIn t .amounts) (riverIn t .carries) c k y
-      ∙ getD-tab (mostCells * substances) (λ (j : ℕ). _) i (pos 0) (omega arith)
-      ∙ rw (cell, place, lt-ltb c (cellsIn t) h)
+      ∙ grid-at mostCells substances (cellsIn t) (pos 0) _ c k (pos 0) h (omega arith) y
   value-read c k h l (no g) =
       let most = river-cells (riverIn t) river-read .1 in
-      let i = c * processes + (k - substances) in
-      let cell : i / processes ≡ c = omega arith in
-      let place : substances + i % processes ≡ k = omega arith in
+      let place : substances + (k - substances) ≡ k = omega arith in
       value-carry (riverIn t .amounts) (riverIn t .carries) c k (omega arith)
-      ∙ ap pos (getD-tab (mostCells * processes) (λ (j : ℕ). _) i 0 (omega arith)
-      ∙ rw (cell, place, lt-ltb c (cellsIn t) h))
+      ∙ ap pos (grid-at mostCells processes (cellsIn t) 0 _ c (k - substances) 0 h (omega arith) (omega arith) ∙ rw place)
       ∙ carry-from k (valueAt t c k .value) (omega arith) (line-right c k h l .1)
 
   -- A text that is a record is, byte for byte, what is written of the river that it reads to.

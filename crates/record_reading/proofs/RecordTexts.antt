@@ -1,11 +1,12 @@
 -- Which texts are read: the records of rivers, each as its river (`read-is-record`); every other text is refused with
 -- 11 (`read-else-refused`). No assumptions.
-use Prim.Native.Nat.{ℕ, _*_}
+use Prim.Native.Nat.{ℕ}
 use mathlib.Core.Bool.{true}
 use mathlib.Core.List.{List}
 use mathlib.Core.Logic.{_↔_}
 use mathlib.Core.Path.{_≡_, sym, ap, _∙_, subst}
-use Rattle.numeric.proofs.TableLaws.{tab-length}
+use lib.IntN.{pos}
+use Rattle.numeric.proofs.GridLaws.{grid-length}
 use Rattle.stoichiometry.specs.Substances.{substances}
 use Rattle.stoichiometry.specs.Rows.{processes}
 use Rattle.river.specs.declared.Changed.{Changed}
@@ -22,8 +23,8 @@ unfolding riverIn amountsIn carriesIn
 is-record t e = record {
   text = write-read t e;
   right = river-read t e;
-  amounts = tab-length (mostCells * substances) _;
-  carries = tab-length (mostCells * processes) _;
+  amounts = grid-length mostCells substances _ (pos 0) _;
+  carries = grid-length mostCells processes _ 0 _;
 }
 
 -- A text is read as a river exactly when it is the record of that river.

@@ -1,14 +1,14 @@
 -- Reading a record (scope, "Probe frame, letter, record", check 11): a text is a record exactly when each of its
 -- lines is the line of a value within limits, and check 4 does not hold of the river that has these values. Laws,
 -- that what is written is read back and that nothing else is read: proofs/RecordLaws.antt. No assumptions.
-use Prim.Native.Nat.{ℕ, _+_, _-_, _*_, _/_, _%_}
+use Prim.Native.Nat.{ℕ, _+_, _-_, _*_, _/_}
 use mathlib.Core.Bool.{Bool, true, false, not, _&&_, cond}
 use mathlib.Core.List.{List, [], _∷_}
 use lib.Dec.{ltb, eqb}
 use lib.ListN.{length}
 use lib.IntN.{ℤ, pos, negℤ, natAbs}
 use Rattle.numeric.specs.Check.{inRange, every, firstHolding, _when_}
-use Rattle.numeric.specs.Table.{tab}
+use Rattle.numeric.specs.Table.{grid}
 use Rattle.stoichiometry.specs.Substances.{substances, mostNet}
 use Rattle.stoichiometry.specs.Rows.{processes}
 use Rattle.river.specs.declared.Changed.{Changed}
@@ -51,12 +51,11 @@ linesRight n t = every n (λ c. every lines (λ k. valueAt t c k .ok))
 -- The amounts and carries that a text of n cells has, zeros beyond the last cell.
 unfoldable pub amountsIn : ℕ → List ℕ → List ℤ
 amountsIn n t =
-    tab (mostCells * substances) (λ i. cond (ltb (i / substances) n) (valueAt t (i / substances) (i % substances) .value) (pos 0))
+    grid mostCells substances n (pos 0) (λ c k. valueAt t c k .value)
 
 unfoldable pub carriesIn : ℕ → List ℕ → List ℕ
 carriesIn n t =
-    tab (mostCells * processes) (λ i.
-    cond (ltb (i / processes) n) (natAbs (valueAt t (i / processes) (substances + i % processes) .value)) 0)
+    grid mostCells processes n 0 (λ c p. natAbs (valueAt t c (substances + p) .value))
 
 -- The cells of a text, and its river.
 abbrev pub cellsIn : List ℕ → ℕ

@@ -11,7 +11,7 @@ use lib.IntN.{pos}
 use Rattle.numeric.specs.Case.{AllHold}
 use Rattle.numeric.specs.Check.{every, allOf, firstHolding}
 use Rattle.numeric.specs.Sum.{sum}
-use Rattle.numeric.specs.Table.{tab}
+use Rattle.numeric.specs.Table.{tab, grid}
 use Rattle.numeric.proofs.CaseLaws.{all-hold}
 use Rattle.stoichiometry.specs.declared.HalfSaturations.{HalfSaturations}
 use Rattle.stoichiometry.specs.declared.RateConstants.{RateConstants}
@@ -105,7 +105,7 @@ process-balance = Balance.process-balance
 
 -- Every case that document 01 stars comes out as stated.
 pub starred-hold : AllHold starred
-unfolding starred every allOf firstHolding sum tab fractionsWrong addsUp figuresWrong yieldsFit constantsFit
+unfolding starred every allOf firstHolding sum tab grid fractionsWrong addsUp figuresWrong yieldsFit constantsFit
     publishedAnswer rowsWrong setNumber entry oxygenChange row processesOf processAt rowEntry rowsOf rowsAnswer
     share times takesPhosphate takesNitrogen ratesOf rateAt productAt quotaAt extentAt temperaturesFit
     conditionsWrong freshAnswer cellsFit lowestAt highestAt amountFits amountsFit carriesFit riverWrong cellExists

@@ -1,10 +1,9 @@
 -- Bounds of what a step adds, on plain values: one process's share, and all of them with an amount. No assumptions.
-use Prim.Native.Nat.{ℕ, _+_, _*_, _/_, _%_, _≤_, _<_}
+use Prim.Native.Nat.{ℕ, _+_, _*_, _≤_, _<_}
 use mathlib.Core.List.{List}
 use mathlib.Core.Path.{_≡_, sym, ap, _∙_}
 use native.Mathlib.Omega.{arith}
 use lib.ListN.{getD}
-use borrow.Author.Tests.{lt-ltb, le-ltb}
 use lib.IntN.{ℤ, pos, natAbs, _+ℤ_, +ℤ-assoc}
 use Rattle.numeric.specs.Sum.{sum}
 use Rattle.numeric.proofs.Bounds.{abs-add, abs-mul-le}
@@ -14,7 +13,7 @@ use Rattle.stoichiometry.specs.Substances.{substances, mostNet}
 use Rattle.rows.specs.Answers.{mostEntry}
 use Rattle.river.specs.Rivers.{mostCells}
 use Rattle.step.specs.Steps.{mostBatches}
-use Rattle.step.specs.Stepping.{Whole, Entries, addedFrom, newFrom}
+use Rattle.step.specs.Stepping.{Whole, Entries, addedFrom}
 
 module _ (whole : List ℤ) (at : ℕ) (entries : List ℤ) (s : ℕ) (w : Whole whole) (e : Entries entries) (h : at + processes ≤ mostCells * processes) (l : s < substances) where
   -- One process adds at most 2.5 × 10^17.
@@ -39,14 +38,3 @@ module _ (whole : List ℤ) (at : ℕ) (entries : List ℤ) (s : ℕ) (w : Whole
   total-more start p =
       +ℤ-assoc start (sum p (λ q. addedFrom whole at entries s q)) (addedFrom whole at entries s p)
       ∙ ap (λ (z : ℤ). start +ℤ z) (sym (sum-more p (λ q. addedFrom whole at entries s q)))
-
--- The number at k of a cell, and beyond the cells.
-pub new-at : (n : ℕ) (amounts whole entries : List ℤ) (c s : ℕ) → c < n → s < substances
-    → getD amounts (c * substances + s) (pos 0) +ℤ sum processes (λ p. addedFrom whole (c * processes) entries s p) ≡ newFrom n amounts whole entries (c * substances + s)
-new-at n amounts whole entries c s h l =
-    let cell : (c * substances + s) / substances ≡ c = omega arith in
-    let place : (c * substances + s) % substances ≡ s = omega arith in
-    rw (cell, place, lt-ltb c n h)
-
-pub new-beyond : (n : ℕ) (amounts whole entries : List ℤ) (k : ℕ) → n * substances ≤ k → newFrom n amounts whole entries k ≡ pos 0
-new-beyond n amounts whole entries k h = rw (le-ltb (k / substances) n (omega arith))

@@ -1,25 +1,25 @@
 -- `step::apply::apply_cells` meets its contract. The loop's invariant: the amounts of the first c cells are the new
 -- ones, and zeros follow. No assumptions.
-use Prim.Native.Nat.{_+_, _*_, _-_, _≤_}
-use mathlib.Core.Path.{_≡_}
+use Prim.Native.Nat.{_-_, _≤_}
+use mathlib.Core.Path.{_≡_, refl}
 use native.Mathlib.Omega.{arith}
 use lib.IntN.{pos}
-use Rattle.numeric.proofs.Filling.{FilledThen, then-none, then-run, then-done}
+use lib.Dec.{lit<}
+use Rattle.numeric.proofs.GridLaws.{RowsFilled, rows-none, rows-next, rows-done}
 use Rattle.stoichiometry.specs.Substances.{substances}
 use Rattle.river.specs.Rivers.{mostCells}
 use Rattle.step.specs.Stepping.{newFrom, appliedFrom}
-use Rattle.step.proofs.StepArithmetic.{new-at, new-beyond}
 use Rattle.step.proofs.apply.apply_cells.Statement.{statement}
 use Rattle.step.proofs.apply.apply_cells.Tie as tie
 
 abbrev Inv-loop : tie.InvT-loop
-Inv-loop n amounts whole entries out₀ c₀ out c = (c ≤ n) × FilledThen (mostCells * substances) (c * substances) (newFrom n amounts whole entries) (pos 0) out
+Inv-loop n amounts whole entries out₀ c₀ out c = (c ≤ n) × RowsFilled mostCells substances n (pos 0) (newFrom amounts whole entries) c out
 
 abbrev μ-loop : tie.MeasureT-loop
 μ-loop n amounts whole entries out₀ c₀ out c = n - c
 
 loop-holds : tie.Need-loop-holds Inv-loop μ-loop
-loop-holds c = (omega arith, rw (c .pre .4) (then-none (mostCells * substances) _ (pos 0)))
+loop-holds c = (omega arith, rw (c .pre .4) (rows-none mostCells substances _ (pos 0) _))
 
 apply-cell-requires : tie.Need-apply-cell-requires Inv-loop μ-loop
 apply-cell-requires c κs =
@@ -32,13 +32,10 @@ loop-again c =
     let entered = c .before .before in
     let at-loop = entered .before in
     let start = at-loop .before in
-    let k = at-loop .loop .c in
-    let a = start .args .amounts .now in
-    let w = start .args .whole .now in
-    let e = start .args .entries .now in
-    let more : k * substances + substances ≡ (k + 1) * substances = omega arith in
-    let next = then-run (mostCells * substances) (k * substances) substances _ _ (pos 0) _ _ (at-loop .loop .inv .1) (omega arith) (λ s l. new-at (start .args .n) a w e k s (entered .loop-test .taken) l) (c .apply-cell .ensures) in
-    (omega arith, rw more at next)
+    let next =
+    rows-next mostCells substances _ (pos 0) _ (at-loop .loop .c) _ _ _ (at-loop .loop .inv .1) (entered .loop-test .taken)
+    (start .pre .0) (λ s l. refl) (c .apply-cell .ensures) in
+    (omega arith, next)
 
 returns : tie.Need-returns Inv-loop μ-loop
 unfolding appliedFrom
@@ -46,8 +43,7 @@ returns c =
     let at-loop = c .before in
     let start = at-loop .before in
     let finished : at-loop .loop .c ≡ start .args .n = omega arith in
-    then-done (mostCells * substances) (at-loop .loop .c * substances) _ (pos 0) _ (at-loop .loop .inv .1)
-    (λ k h l. new-beyond (start .args .n) (start .args .amounts .now) (start .args .whole .now) (start .args .entries .now) k (rw finished at h))
+    rows-done mostCells substances _ (pos 0) _ _ _ (lit< tt) finished (at-loop .loop .inv .1)
 
 pub apply-cells-spec : {M : Type 1} → statement M
 apply-cells-spec =
