@@ -1,5 +1,5 @@
--- Checks: a number from low to high, a test of every number below n or of every element of a list, and the number of the
--- first check that holds, which is what a call refuses with. Laws: proofs/CheckLaws.antt. No assumptions.
+-- Checks: a number from low to high, a test of every number below n or of every element of a list, and the number of
+-- the first check that holds, which is what a call refuses with. Laws: proofs/CheckLaws.antt. No assumptions.
 use Prim.Native.Nat.{ℕ, zero, suc}
 use mathlib.Core.Bool.{Bool, true, false, _&&_}
 use mathlib.Core.List.{List, [], _∷_}

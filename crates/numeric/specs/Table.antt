@@ -18,8 +18,8 @@ module _ {A : Type 0} where
   run l b zero f = l
   run l b (suc n) f = set (run l b n f) (b + n) (f n)
 
-  -- Rows of w elements, one after the other: the element at place k, which is f c s in row c of the first n, at s, and z
-  -- beyond them; and m such rows.
+  -- Rows of w elements, one after the other: the element at place k, which is f c s in row c of the first n, at s, and
+  -- z beyond them; and m such rows.
   abbrev pub gridAt : ℕ → ℕ → A → (ℕ → ℕ → A) → ℕ → A
   gridAt w n z f k = cond (ltb (k / w) n) (f (k / w) (k % w)) z
 

@@ -15,7 +15,24 @@ use river::CARRIES;
 use stoichiometry::ENTRIES;
 use stoichiometry::PROCESSES;
 use stoichiometry::SUBSTANCES;
-use stoichiometry::place;
+use stoichiometry::place::H_PLUS;
+use stoichiometry::place::H2O;
+use stoichiometry::place::HCO3;
+use stoichiometry::place::HPO4;
+use stoichiometry::place::N2;
+use stoichiometry::place::NH4;
+use stoichiometry::place::NO2;
+use stoichiometry::place::NO3;
+use stoichiometry::place::O2;
+use stoichiometry::place::SI;
+use stoichiometry::place::SS;
+use stoichiometry::place::XALG;
+use stoichiometry::place::XH;
+use stoichiometry::place::XI;
+use stoichiometry::place::XN1;
+use stoichiometry::place::XN2;
+use stoichiometry::place::XP;
+use stoichiometry::place::XS;
 
 // What the process at place p adds to the substance at place s; a process that does not change it has no entry for it.
 fn added_by(
@@ -80,177 +97,33 @@ fn apply_one(
 // The new amounts of cell c, substance by substance, SS to N2: places and the processes that change each are written
 // out, so that each sum has its terms alone.
 pub(crate) fn apply_cell(
-    amounts: &[i64; AMOUNTS],
+    old: &[i64; AMOUNTS],
     whole: &[i64; CARRIES],
     entries: &[i64; ENTRIES],
     c: usize,
     out: &mut [i64; AMOUNTS],
 )
-    requires { ⌜ (c < mostCells) × Amounts (now amounts) × Whole (now whole) × Entries (now entries) ⌝ }
-    ensures { λ r. ⌜ now (out .exit) ≡ run (now (out .entry)) (c * substances) substances (λ s. getD (now (amounts .entry)) (c * substances + s) (pos 0) +ℤ sum processes (λ p. addedFrom (now (whole .entry)) (c * processes) (now (entries .entry)) s p)) ⌝ }
+    requires { ⌜ (c < mostCells) × Amounts (now old) × Whole (now whole) × Entries (now entries) ⌝ }
+    ensures { λ r. ⌜ now (out .exit) ≡ run (now (out .entry)) (c * substances) substances (λ s. getD (now (old .entry)) (c * substances + s) (pos 0) +ℤ sum processes (λ p. addedFrom (now (whole .entry)) (c * processes) (now (entries .entry)) s p)) ⌝ }
 {
-    apply_one(
-        amounts,
-        whole,
-        entries,
-        c,
-        place::SS,
-        0b0_0100_0000_0001_1011,
-        out,
-    );
-    apply_one(
-        amounts,
-        whole,
-        entries,
-        c,
-        place::SI,
-        0b0_0000_0000_0000_0000,
-        out,
-    );
-    apply_one(
-        amounts,
-        whole,
-        entries,
-        c,
-        place::NH4,
-        0b0_0111_0110_1110_0101,
-        out,
-    );
-    apply_one(
-        amounts,
-        whole,
-        entries,
-        c,
-        place::NO2,
-        0b0_0000_0001_0101_1000,
-        out,
-    );
-    apply_one(
-        amounts,
-        whole,
-        entries,
-        c,
-        place::NO3,
-        0b0_0000_1001_0010_1010,
-        out,
-    );
-    apply_one(
-        amounts,
-        whole,
-        entries,
-        c,
-        place::HPO4,
-        0b1_1111_1111_1111_1111,
-        out,
-    );
-    apply_one(
-        amounts,
-        whole,
-        entries,
-        c,
-        place::O2,
-        0b0_0111_1111_1100_0111,
-        out,
-    );
-    apply_one(
-        amounts,
-        whole,
-        entries,
-        c,
-        place::HCO3,
-        0b0_0111_1111_1111_1111,
-        out,
-    );
-    apply_one(
-        amounts,
-        whole,
-        entries,
-        c,
-        place::H_PLUS,
-        0b0_0111_1111_1111_1111,
-        out,
-    );
-    apply_one(
-        amounts,
-        whole,
-        entries,
-        c,
-        place::XH,
-        0b0_0000_0000_0011_1111,
-        out,
-    );
-    apply_one(
-        amounts,
-        whole,
-        entries,
-        c,
-        place::XN1,
-        0b0_0000_0000_1100_0000,
-        out,
-    );
-    apply_one(
-        amounts,
-        whole,
-        entries,
-        c,
-        place::XN2,
-        0b0_0000_0011_0000_0000,
-        out,
-    );
-    apply_one(
-        amounts,
-        whole,
-        entries,
-        c,
-        place::XALG,
-        0b0_0011_1100_0000_0000,
-        out,
-    );
-    apply_one(
-        amounts,
-        whole,
-        entries,
-        c,
-        place::XS,
-        0b0_0110_0000_0000_0000,
-        out,
-    );
-    apply_one(
-        amounts,
-        whole,
-        entries,
-        c,
-        place::XI,
-        0b0_0011_0010_1010_0100,
-        out,
-    );
-    apply_one(
-        amounts,
-        whole,
-        entries,
-        c,
-        place::XP,
-        0b1_1000_0000_0000_0000,
-        out,
-    );
-    apply_one(
-        amounts,
-        whole,
-        entries,
-        c,
-        place::H2O,
-        0b0_0111_1111_1111_1111,
-        out,
-    );
-    apply_one(
-        amounts,
-        whole,
-        entries,
-        c,
-        place::N2,
-        0b0_0000_0000_0011_0000,
-        out,
-    );
+    apply_one(old, whole, entries, c, SS, 0b0_0100_0000_0001_1011, out);
+    apply_one(old, whole, entries, c, SI, 0b0_0000_0000_0000_0000, out);
+    apply_one(old, whole, entries, c, NH4, 0b0_0111_0110_1110_0101, out);
+    apply_one(old, whole, entries, c, NO2, 0b0_0000_0001_0101_1000, out);
+    apply_one(old, whole, entries, c, NO3, 0b0_0000_1001_0010_1010, out);
+    apply_one(old, whole, entries, c, HPO4, 0b1_1111_1111_1111_1111, out);
+    apply_one(old, whole, entries, c, O2, 0b0_0111_1111_1100_0111, out);
+    apply_one(old, whole, entries, c, HCO3, 0b0_0111_1111_1111_1111, out);
+    apply_one(old, whole, entries, c, H_PLUS, 0b0_0111_1111_1111_1111, out);
+    apply_one(old, whole, entries, c, XH, 0b0_0000_0000_0011_1111, out);
+    apply_one(old, whole, entries, c, XN1, 0b0_0000_0000_1100_0000, out);
+    apply_one(old, whole, entries, c, XN2, 0b0_0000_0011_0000_0000, out);
+    apply_one(old, whole, entries, c, XALG, 0b0_0011_1100_0000_0000, out);
+    apply_one(old, whole, entries, c, XS, 0b0_0110_0000_0000_0000, out);
+    apply_one(old, whole, entries, c, XI, 0b0_0011_0010_1010_0100, out);
+    apply_one(old, whole, entries, c, XP, 0b1_1000_0000_0000_0000, out);
+    apply_one(old, whole, entries, c, H2O, 0b0_0111_1111_1111_1111, out);
+    apply_one(old, whole, entries, c, N2, 0b0_0000_0000_0011_0000, out);
 }
 
 // Writes the new amounts of n cells into a list of zeros.

@@ -72,7 +72,7 @@ start18 c = start17 (c .before .before)
 -- The new amount of the substance at place s.
 abbrev new : tie.Start → ℕ → ℤ
 new c s =
-    getD (c .args .amounts .now) (c .args .c * substances + s) (pos 0)
+    getD (c .args .old .now) (c .args .c * substances + s) (pos 0)
     +ℤ sum processes (λ p. addedFrom (c .args .whole .now) (c .args .c * processes) (c .args .entries .now) s p)
 
 -- The first n amounts of the cell are stored.
