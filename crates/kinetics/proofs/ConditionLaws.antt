@@ -8,7 +8,7 @@ use Rattle.numeric.proofs.CheckLaws.{and-left, and-right}
 use Rattle.kinetics.specs.declared.Temperatures.{Temperatures}
 use Rattle.kinetics.specs.declared.Conditions.{Conditions}
 use Rattle.kinetics.specs.Conditions.{temperaturesFit, conditionsWrong}
-use Rattle.kinetics.specs.Ranges.{ConditionsFit}
+use Rattle.kinetics.specs.Inner.Ranges.{ConditionsFit}
 use Rattle.stoichiometry.specs.Limits.{mostSeconds}
 
 -- Two checks that are both met.

@@ -21,7 +21,7 @@ use Rattle.stoichiometry.specs.Rows.{processes, noProcess, processesOf, process
 use Rattle.kinetics.specs.declared.Conditions.{Conditions}
 use Rattle.stoichiometry.specs.Limits.{mostSeconds, secondsPerDay}
 use Rattle.kinetics.specs.Rates.{ratesOf, noRate, rateAt, takesPhosphate, productAt, levelsOf, quotaAt, extentAt}
-use Rattle.kinetics.specs.Ranges.{ConditionsFit}
+use Rattle.kinetics.specs.Inner.Ranges.{ConditionsFit}
 use Rattle.kinetics.proofs.FactorLaws.{riseOfAll, product-bound}
 
 -- What a list of figures that are all in a range says of each.

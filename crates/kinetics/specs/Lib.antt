@@ -1,4 +1,4 @@
 pub mod Conditions
 pub mod Factors
 pub mod Rates
-pub mod Ranges
+pub mod Inner

@@ -22,7 +22,7 @@ use Rattle.text.proofs.BlockLaws.{blocks-length, part-blocks}
 use Rattle.text.proofs.DecimalLaws.{plain-length, decimal-length}
 use Rattle.text.proofs.WriteLaws.{put-length, put-none, put-within, copied-accepted, grow, store}
 use Rattle.record.specs.Lines.{lines, lineBytes, cellBytes, front, line, cellText, recordText, recordOf}
-use Rattle.record.specs.Stages.{lineNumbers}
+use Rattle.record.specs.Inner.Stages.{lineNumbers}
 use Rattle.record.specs.Writing.{writeNumber, outputAfter, workAfter}
 use Rattle.record.proofs.LineLaws.{front-length, line-length, cell-length}
 use Rattle.record.proofs.LineLaws.{record-bytes}

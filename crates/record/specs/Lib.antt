@@ -1,3 +1,3 @@
 pub mod Lines
 pub mod Writing
-pub mod Stages
+pub mod Inner

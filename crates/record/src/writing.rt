@@ -6,7 +6,7 @@ ghost use lib.IntN.{pos};
 ghost use Rattle.river.specs.Rivers.{mostCells};
 ghost use Rattle.text.specs.Writes.{put};
 ghost use Rattle.record.specs.Lines.{front, line, cellText, recordText, valueOf, lines, lineBytes, cellBytes};
-ghost use Rattle.record.specs.Stages.{lineNumbers};
+ghost use Rattle.record.specs.Inner.Stages.{lineNumbers};
 use crate::Record;
 use river::AMOUNTS;
 use river::CARRIES;

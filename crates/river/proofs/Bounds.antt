@@ -20,7 +20,7 @@ use Rattle.numeric.proofs.CheckLaws.{and-left, and-right, every-at}
 use Rattle.numeric.proofs.Comparison.{leZ-true, bits-eq}
 use Rattle.numeric.proofs.TableLaws.{getD-tab}
 use Rattle.stoichiometry.specs.Substances.{substances, order, mostOrganic, mostGrains, mostNet}
-use Rattle.river.specs.Runs.{organicAt, netAt}
+use Rattle.river.specs.Inner.Runs.{organicAt, netAt}
 use Rattle.river.specs.Rivers.{lowest, highest, lowestAt, highestAt, amountFits}
 
 -- The bounds by kind.

@@ -19,7 +19,7 @@ use Rattle.stoichiometry.specs.Rows.{processes}
 use Rattle.river.specs.declared.River.{River}
 use Rattle.river.specs.Rivers.{mostCarry}
 use Rattle.river.specs.Rivers.{mostCells, lowestAt, highestAt, amountFits, amountAt, carryAt, amountsFit, carriesFit, cellsFit, riverRight, riverWrong, zeroRiver, cellExists, substanceExists}
-use Rattle.river.specs.Runs.{netAt}
+use Rattle.river.specs.Inner.Runs.{netAt}
 use Rattle.river.proofs.Bounds.{fits-bound, fits-level}
 
 -- The test of an amount and of a carry in a cell, and beyond the last cell.

@@ -21,7 +21,7 @@ use Rattle.numeric.proofs.Machine.{kept}
 use Rattle.numeric.proofs.RingLaws.{≤ℤ-trans}
 use Rattle.stoichiometry.specs.Substances.{substances}
 use Rattle.river.specs.Rivers.{lowestAt, highestAt, amountFits}
-use Rattle.river.specs.Runs.{organicAt, netAt, RunFits, SameBounds, Covers}
+use Rattle.river.specs.Inner.Runs.{organicAt, netAt, RunFits, SameBounds, Covers}
 use Rattle.river.proofs.Bounds.{lowestOf, highestOf, lowest-kind, highest-kind, fits-lowest, fits-highest}
 
 not-so : (t : Bool) → (t ≡ true → ⊥) → t ≡ false

@@ -1,3 +1,3 @@
 pub mod Rivers
-pub mod Runs
 pub mod Cells
+pub mod Inner

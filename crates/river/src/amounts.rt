@@ -8,7 +8,7 @@ ghost use lib.IntN.{pos, natAbs};
 ghost use Rattle.numeric.specs.Check.{every};
 ghost use Rattle.stoichiometry.specs.Substances.{substances};
 ghost use Rattle.river.specs.Rivers.{mostCells, lowestAt, highestAt, amountFits, amountAt, amountsFit};
-ghost use Rattle.river.specs.Runs.{organicAt, netAt, RunFits, SameBounds, Covers};
+ghost use Rattle.river.specs.Inner.Runs.{organicAt, netAt, RunFits, SameBounds, Covers};
 use crate::AMOUNTS;
 use crate::River;
 use numeric::both;

@@ -1,5 +1,5 @@
 -- Check 3 as the code asks it, on the rows and the E's that it made with a number for what is asked of a process
--- (specs/Code.antt), is check 3 of Sets.antt: `wrong-is`. No assumptions.
+-- (specs/Inner/Code.antt), is check 3 of Sets.antt: `wrong-is`. No assumptions.
 use Prim.Native.Nat.{ℕ, _<_}
 use mathlib.Core.Bool.{not}
 use mathlib.Core.List.{List, map}
@@ -13,7 +13,7 @@ use Rattle.numeric.proofs.TableLaws.{getD-tab}
 use Rattle.stoichiometry.specs.declared.Set.{Set}
 use Rattle.stoichiometry.specs.Rows.{processes, Asked, consumesO2, takesUpNothing, unasked, noProcess, oxygenChange, processesOf, processAt, rowsOf}
 use Rattle.stoichiometry.specs.Sets.{askedMet, rowsWrong}
-use Rattle.rows.specs.Code.{askedTable, oxygenOf, askedOf, wrongOf}
+use Rattle.rows.specs.Inner.Code.{askedTable, oxygenOf, askedOf, wrongOf}
 use Rattle.stoichiometry.proofs.Balance.{getD-rows}
 
 -- The code's number for what is asked of a process.

@@ -1,3 +1,3 @@
 pub mod Answers
 pub mod Changing
-pub mod Code
+pub mod Inner

@@ -4,7 +4,7 @@ ghost use Prim.Native.Nat.{_<_};
 ghost use lib.IntN.{pos};
 ghost use lib.Signed.{leZ};
 ghost use Rattle.stoichiometry.specs.Rows.{processes};
-ghost use Rattle.rows.specs.Code.{askedOf, wrongOf};
+ghost use Rattle.rows.specs.Inner.Code.{askedOf, wrongOf};
 use numeric::both;
 use stoichiometry::ENTRIES;
 use stoichiometry::PROCESSES;

@@ -13,7 +13,7 @@ use Rattle.stoichiometry.specs.Substances.{substances, mostNet}
 use Rattle.rows.specs.Answers.{mostEntry}
 use Rattle.river.specs.Rivers.{mostCells}
 use Rattle.step.specs.Steps.{mostBatches}
-use Rattle.step.specs.Stepping.{Whole, Entries, addedFrom}
+use Rattle.step.specs.Inner.Stepping.{Whole, Entries, addedFrom}
 
 module _ (whole : List ℤ) (at : ℕ) (entries : List ℤ) (s : ℕ) (w : Whole whole) (e : Entries entries) (h : at + processes ≤ mostCells * processes) (l : s < substances) where
   -- One process adds at most 2.5 × 10^17.

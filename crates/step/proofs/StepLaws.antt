@@ -27,7 +27,7 @@ use Rattle.river.specs.declared.River.{River}
 use Rattle.river.specs.Rivers.{amountAt, carryAt, riverWrong, mostCells}
 use Rattle.river.proofs.Rivers.{river-cells, amount-fits-at, amount-bound, carry-bound}
 use Rattle.step.specs.Steps.{mostBatches, batches, newAmount, steppedAmounts, steppedCarries, batchesWrong}
-use Rattle.step.specs.Stepping.{Whole, Amounts, Going, appliedFrom, wholeAt, wholeFrom, restFrom}
+use Rattle.step.specs.Inner.Stepping.{Whole, Amounts, Going, appliedFrom, wholeAt, wholeFrom, restFrom}
 
 module _ (set : Set) (given : Conditions) (r : River) (right : riverWrong r ≡ false) where
   most : r .cells ≤ mostCells

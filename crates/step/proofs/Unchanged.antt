@@ -10,7 +10,7 @@ use lib.ListN.{getD}
 use Rattle.stoichiometry.specs.Rows.{processes}
 use Rattle.stoichiometry.specs.Substances.{substances}
 use Rattle.rows.specs.Changing.{digit, mayChange}
-use Rattle.step.specs.Stepping.{Entries, addedFrom}
+use Rattle.step.specs.Inner.Stepping.{Entries, addedFrom}
 
 -- Such a process adds nothing.
 pub added-none : (whole : List ℤ) (at : ℕ) (entries : List ℤ) (s p : ℕ) → Entries entries → s < substances

@@ -9,7 +9,7 @@ ghost use Rattle.stoichiometry.specs.Rows.{processes};
 ghost use Rattle.stoichiometry.specs.Substances.{substances, mostNet};
 ghost use Rattle.river.specs.Rivers.{mostCells};
 ghost use Rattle.rows.specs.Changing.{changingOf, mayChange};
-ghost use Rattle.step.specs.Stepping.{Whole, Entries, Amounts, addedFrom, appliedFrom};
+ghost use Rattle.step.specs.Inner.Stepping.{Whole, Entries, Amounts, addedFrom, appliedFrom};
 use river::AMOUNTS;
 use river::CARRIES;
 use stoichiometry::ENTRIES;

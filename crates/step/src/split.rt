@@ -9,7 +9,7 @@ ghost use Rattle.river.specs.Rivers.{mostCells, mostCarry};
 ghost use lib.IntN.{pos};
 ghost use lib.Signed.{leZ};
 ghost use Rattle.step.specs.Steps.{mostBatches};
-ghost use Rattle.step.specs.Stepping.{mostExtent, carriedFrom, Extents, Carries};
+ghost use Rattle.step.specs.Inner.Stepping.{mostExtent, carriedFrom, Extents, Carries};
 use river::CARRIES;
 use river::River;
 use stoichiometry::PROCESSES;

@@ -8,7 +8,7 @@ ghost use Rattle.stoichiometry.specs.Rows.{processes};
 ghost use Rattle.stoichiometry.specs.Substances.{substances};
 ghost use Rattle.river.specs.Rivers.{mostCells};
 ghost use Rattle.step.specs.Steps.{batchesWrong, steppedAmounts, steppedCarries};
-ghost use Rattle.step.specs.Stepping.{Ready, riverWith, answerWith};
+ghost use Rattle.step.specs.Inner.Stepping.{Ready, riverWith, answerWith};
 use crate::apply::apply_cells;
 use crate::cells::make_batches;
 use crate::split::batches_fit;

@@ -12,7 +12,7 @@ use lib.ListN.{length, set, getD, length-append}
 use lib.Seq.{getD-set-same, getD-set-other, set-getD}
 use Rattle.text.specs.Writes.{put, putWithin}
 use Rattle.text.specs.Decimals.{glyph, nextMark, columns, plain, markOf, decimal}
-use Rattle.text.specs.Stages.{Blank}
+use Rattle.text.specs.Inner.Stages.{Blank}
 use Rattle.text.proofs.WriteLaws.{put-none, put-length, put-before, put-over, put-within, set-put, store}
 
 pub columns-length : (i mark r : ℕ) → length (columns i mark r) ≡ i

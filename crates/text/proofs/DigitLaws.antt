@@ -8,7 +8,7 @@ use lib.ListN.{length, set, take, drop, length-set, List·getD-append}
 use lib.Seq.{length-take-le, getD-take}
 use Rattle.text.specs.Writes.{put}
 use Rattle.text.specs.Decimals.{columns}
-use Rattle.text.specs.Stages.{Blank, pair, four}
+use Rattle.text.specs.Inner.Stages.{Blank, pair, four}
 use Rattle.text.proofs.WriteLaws.{put-before, set-put, store}
 use Rattle.text.proofs.DecimalLaws.{glyph-zero, glyph-digit, next-mark-zero, next-mark-digit, columns-length, columns-turn, blank-set, blank-end}
 

@@ -8,7 +8,7 @@ use native.Mathlib.Omega.{arith}
 use lib.Bits.{bitAnd, and-block, and-mask}
 use lib.ListN.{length, set}
 use Rattle.text.specs.Writes.{put}
-use Rattle.text.specs.Stages.{four, packed}
+use Rattle.text.specs.Inner.Stages.{four, packed}
 use Rattle.text.proofs.WriteLaws.{set-put, store}
 
 -- A tenth of a number below 100, and four bits below a multiple of 64.

@@ -1,4 +1,4 @@
 pub mod Writes
 pub mod Decimals
 pub mod Blocks
-pub mod Stages
+pub mod Inner

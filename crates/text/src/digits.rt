@@ -4,7 +4,7 @@ ghost use Prim.Native.Nat.{_+_, _<_, _≤_};
 ghost use lib.ListN.{length};
 ghost use Rattle.text.specs.Writes.{put};
 ghost use Rattle.text.specs.Decimals.{columns};
-ghost use Rattle.text.specs.Stages.{Blank, pair, four};
+ghost use Rattle.text.specs.Inner.Stages.{Blank, pair, four};
 use crate::writing::write_singles;
 
 // Two digits.

@@ -5,7 +5,7 @@ ghost use Prim.Native.Nat.{_+_, _<_, _≤_};
 ghost use lib.ListN.{length};
 ghost use Rattle.text.specs.Writes.{put};
 ghost use Rattle.text.specs.Decimals.{glyph, nextMark, columns, plain, markOf};
-ghost use Rattle.text.specs.Stages.{Blank};
+ghost use Rattle.text.specs.Inner.Stages.{Blank};
 use crate::digits::write_below_10000;
 use crate::digits::write_four;
 use crate::digits::write_mark;

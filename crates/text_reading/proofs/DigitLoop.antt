@@ -14,8 +14,8 @@ use lib.Dec.{leb}
 use lib.IntN.{ℤ}
 use lib.ListN.{length, take, getD}
 use Rattle.text_reading.specs.Reading.{bad, most, isDigit, other, next, runOn, start, none, signed, within, finish, parse}
-use Rattle.text_reading.specs.Digits.{largest, digitsSeen}
-use Rattle.text_reading.specs.Stages.{Ready}
+use Rattle.text_reading.specs.Inner.Digits.{largest, digitsSeen}
+use Rattle.text_reading.specs.Inner.Stages.{Ready}
 use Rattle.text_reading.proofs.ReadingLaws.{digit-range}
 use Rattle.text_reading.proofs.ReadingLoop.{run-turn, lost, stuck, ended, other-late, next-other, next-full, next-more}
 

@@ -12,7 +12,7 @@ use lib.IntN.{ℤ, pos}
 use lib.ListN.{length, take, drop, getD, take-append-drop}
 use lib.Seq.{take-suc, take-all}
 use Rattle.text_reading.specs.Reading.{Seen, cols, loneZero, bad, most, isDigit, digit, other, next, runOn, start, none, within, finish, parse}
-use Rattle.text_reading.specs.Stages.{Blanks, Ready}
+use Rattle.text_reading.specs.Inner.Stages.{Blanks, Ready}
 use Rattle.text_reading.proofs.ReadingLaws.{run-append, run-snoc, run-bad, is-digit, next-digit}
 
 pub run-turn : (t : List ℕ) (i : ℕ) (s : Seen) → i < length t → runOn start (take i t) ≡ s

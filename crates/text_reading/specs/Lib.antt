@@ -1,3 +1,2 @@
 pub mod Reading
-pub mod Digits
-pub mod Stages
+pub mod Inner

@@ -4,8 +4,8 @@ ghost use mathlib.Core.Path.{_≡_};
 ghost use Prim.Native.Nat.{_+_, _-_, _*_, _≤_};
 ghost use lib.ListN.{getD};
 ghost use Rattle.text_reading.specs.Reading.{isDigit, none, signed, within, finish, parse};
-ghost use Rattle.text_reading.specs.Digits.{digitsSeen};
-ghost use Rattle.text_reading.specs.Stages.{Blanks, Ready};
+ghost use Rattle.text_reading.specs.Inner.Digits.{digitsSeen};
+ghost use Rattle.text_reading.specs.Inner.Stages.{Blanks, Ready};
 use crate::Number;
 use numeric::both;
 

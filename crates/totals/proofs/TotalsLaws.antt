@@ -30,7 +30,7 @@ use Rattle.stoichiometry.specs.Sets.{setChecks, setNumber}
 use Rattle.river.specs.declared.River.{River}
 use Rattle.river.specs.Rivers.{highest, lowestAt, highestAt, amountFits, amountAt, riverWrong, cellExists}
 use Rattle.river.specs.Cells.{cellTotal, totalsNumber, totalsAnswer}
-use Rattle.totals.specs.TotalsCode.{parts, partOf, weightsOf, heldBy, totalsAt, weightedTotal, refusedTotals, heaviest, mostHeld, Addable, AllAddable}
+use Rattle.totals.specs.Inner.TotalsCode.{parts, partOf, weightsOf, heldBy, totalsAt, weightedTotal, refusedTotals, heaviest, mostHeld, Addable, AllAddable}
 use Rattle.river.proofs.Bounds.{fits-lowest, fits-highest}
 use Rattle.river.proofs.Rivers.{amount-fits-at}
 

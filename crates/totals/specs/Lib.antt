@@ -1,1 +1,1 @@
-pub mod TotalsCode
+pub mod Inner

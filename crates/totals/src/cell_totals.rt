@@ -5,7 +5,7 @@ ghost use lib.IntN.{pos};
 ghost use lib.ListN.{getD};
 ghost use Rattle.stoichiometry.specs.Substances.{organicComposition, substances};
 ghost use Rattle.river.specs.Rivers.{mostCells};
-ghost use Rattle.totals.specs.TotalsCode.{parts, weightsOf, weightedTotal, totalsAt, refusedTotals, Addable, AllAddable};
+ghost use Rattle.totals.specs.Inner.TotalsCode.{parts, weightsOf, weightedTotal, totalsAt, refusedTotals, Addable, AllAddable};
 use river::AMOUNTS;
 use river::Totals;
 use stoichiometry::Fractions;

@@ -17,7 +17,7 @@ use Rattle.stoichiometry.specs.Substances.{substances, mostNet}
 use Rattle.river.specs.declared.River.{River}
 use Rattle.river.specs.Rivers.{mostCells, riverWrong}
 use Rattle.transport.specs.Flow.{leftOf, cameAt, movedOf}
-use Rattle.transport.specs.Stages.{AmountsWithin, SmallAmounts, stayedOf, joinedOf}
+use Rattle.transport.specs.Inner.Stages.{AmountsWithin, SmallAmounts, stayedOf, joinedOf}
 use Rattle.river.proofs.Rivers.{amount-bound}
 use Rattle.transport.proofs.FlowLaws.{passing-bound, left-at, came-first, came-next, came-beyond, moved-at}
 

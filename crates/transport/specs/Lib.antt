@@ -1,4 +1,4 @@
 pub mod Load
 pub mod Flow
-pub mod Stages
 pub mod Air
+pub mod Inner

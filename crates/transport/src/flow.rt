@@ -6,7 +6,7 @@ ghost use lib.IntN.{natAbs, _+ℤ_, _-ℤ_};
 ghost use Rattle.stoichiometry.specs.Substances.{substances, mostNet};
 ghost use Rattle.river.specs.Rivers.{mostCells};
 ghost use Rattle.transport.specs.Flow.{passing, leftOf, movedOf};
-ghost use Rattle.transport.specs.Stages.{AmountsWithin, SmallAmounts, stayedOf, joinedOf};
+ghost use Rattle.transport.specs.Inner.Stages.{AmountsWithin, SmallAmounts, stayedOf, joinedOf};
 use crate::Flowed;
 use river::AMOUNTS;
 use stoichiometry::SUBSTANCES;

@@ -16,7 +16,7 @@ use Rattle.numeric.proofs.Machine.{kept}
 use Rattle.stoichiometry.specs.Substances.{substances}
 use Rattle.river.specs.Rivers.{amountAt, riverWrong, cellExists}
 use Rattle.river.specs.Cells.{letterOf, letterNumber, letterAnswer}
-use Rattle.river.specs.Runs.{netAt}
+use Rattle.river.specs.Inner.Runs.{netAt}
 use Rattle.river.proofs.Rivers.{wrong-tested, river-cells, level-amount}
 use Rattle.river.proofs.letter_of.Statement.{statement}
 use Rattle.river.proofs.letter_of.Tie as tie

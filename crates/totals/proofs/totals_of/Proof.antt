@@ -10,7 +10,7 @@ use Rattle.numeric.proofs.CheckLaws.{and-left, and-right}
 use Rattle.stoichiometry.specs.Sets.{setNumber}
 use Rattle.stoichiometry.proofs.SetNumber.{accepted-passes}
 use Rattle.river.specs.Rivers.{riverWrong, cellExists}
-use Rattle.totals.specs.TotalsCode.{refusedTotals}
+use Rattle.totals.specs.Inner.TotalsCode.{refusedTotals}
 use Rattle.river.proofs.Rivers.{wrong-tested, river-cells}
 use Rattle.totals.proofs.TotalsLaws.{cell-addable, totals-set-refused, totals-river-refused, totals-cell-refused, totals-accepted}
 use Rattle.totals.proofs.totals_of.Statement.{statement}

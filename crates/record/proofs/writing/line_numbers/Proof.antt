@@ -6,7 +6,7 @@ use native.Mathlib.Omega.{arith}
 use lib.ListN.{length}
 use mir.Facts.{fits-below}
 use Rattle.text.specs.Writes.{put}
-use Rattle.record.specs.Stages.{lineNumbers}
+use Rattle.record.specs.Inner.Stages.{lineNumbers}
 use Rattle.record.proofs.Written.{numbers-start, numbers-turn, numbers-written}
 use Rattle.record.proofs.writing.line_numbers.Statement.{statement}
 use Rattle.record.proofs.writing.line_numbers.Tie as tie

@@ -8,7 +8,7 @@ use lib.IntN.{pos}
 use lib.ListN.{getD}
 use mir.Facts.{toZ-ofZ}
 use Rattle.numeric.proofs.Machine.{kept}
-use Rattle.river.specs.Runs.{RunFits}
+use Rattle.river.specs.Inner.Runs.{RunFits}
 use Rattle.river.proofs.Runs.{run-none, run-more, run-stops}
 use Rattle.river.proofs.amounts.each_fits.Statement.{statement}
 use Rattle.river.proofs.amounts.each_fits.Tie as tie

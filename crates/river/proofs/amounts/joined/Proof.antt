@@ -6,7 +6,7 @@ use borrow.Author.Needs.{sfits-of}
 use mir.Facts.{toZ-ofZ}
 use mir.Syntax.{w64}
 use mir.Val.{toZ}
-use Rattle.river.specs.Runs.{Covers}
+use Rattle.river.specs.Inner.Runs.{Covers}
 use Rattle.river.proofs.Runs.{covers-none, covers-more}
 use Rattle.river.proofs.amounts.joined.Statement.{statement}
 use Rattle.river.proofs.amounts.joined.Tie as tie

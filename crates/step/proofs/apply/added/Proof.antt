@@ -14,7 +14,7 @@ use Rattle.numeric.proofs.Machine.{kept, kept-is}
 use Rattle.numeric.proofs.SumLaws.{sum-none}
 use Rattle.stoichiometry.specs.Rows.{processes}
 use Rattle.rows.specs.Changing.{digit}
-use Rattle.step.specs.Stepping.{addedFrom}
+use Rattle.step.specs.Inner.Stepping.{addedFrom}
 use Rattle.step.proofs.Unchanged.{digit-half}
 use Rattle.step.proofs.StepArithmetic.{total-bound, total-more}
 use Rattle.step.proofs.apply.added.Statement.{statement}

@@ -11,7 +11,7 @@ use Rattle.numeric.specs.Table.{run}
 use Rattle.numeric.proofs.Filling.{run-none, run-more}
 use Rattle.stoichiometry.specs.Rows.{processes}
 use Rattle.stoichiometry.specs.Substances.{substances}
-use Rattle.step.specs.Stepping.{addedFrom}
+use Rattle.step.specs.Inner.Stepping.{addedFrom}
 use Rattle.step.proofs.apply.apply_cell.Statement.{statement}
 use Rattle.step.proofs.apply.apply_cell.Tie as tie
 

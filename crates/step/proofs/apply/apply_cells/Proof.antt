@@ -8,7 +8,7 @@ use lib.Dec.{lit<}
 use Rattle.numeric.proofs.GridLaws.{RowsFilled, rows-none, rows-next, rows-done}
 use Rattle.stoichiometry.specs.Substances.{substances}
 use Rattle.river.specs.Rivers.{mostCells}
-use Rattle.step.specs.Stepping.{newFrom, appliedFrom}
+use Rattle.step.specs.Inner.Stepping.{newFrom, appliedFrom}
 use Rattle.step.proofs.apply.apply_cells.Statement.{statement}
 use Rattle.step.proofs.apply.apply_cells.Tie as tie
 

@@ -8,7 +8,7 @@ use Rattle.numeric.specs.Sum.{sum}
 use Rattle.numeric.proofs.Machine.{kept-is}
 use Rattle.stoichiometry.specs.Rows.{processes}
 use Rattle.stoichiometry.specs.Substances.{substances}
-use Rattle.step.specs.Stepping.{addedFrom}
+use Rattle.step.specs.Inner.Stepping.{addedFrom}
 use borrow.Author.Needs.{needs}
 use Rattle.step.proofs.apply.apply_one.Statement.{statement}
 use Rattle.step.proofs.apply.apply_one.Tie as tie

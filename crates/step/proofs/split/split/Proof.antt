@@ -11,7 +11,7 @@ use Rattle.numeric.specs.Table.{run}
 use Rattle.numeric.proofs.Filling.{run-none, run-more}
 use Rattle.stoichiometry.specs.Rows.{processes}
 use Rattle.river.specs.Rivers.{mostCarry}
-use Rattle.step.specs.Stepping.{mostExtent, carriedFrom}
+use Rattle.step.specs.Inner.Stepping.{mostExtent, carriedFrom}
 use Rattle.step.proofs.split.split.Statement.{statement}
 use Rattle.step.proofs.split.split.Tie as tie
 

@@ -6,7 +6,7 @@ use native.Mathlib.Omega.{arith}
 use lib.ListN.{length}
 use Rattle.text.specs.Writes.{put}
 use Rattle.text.specs.Decimals.{columns}
-use Rattle.text.specs.Stages.{Blank, pair}
+use Rattle.text.specs.Inner.Stages.{Blank, pair}
 use Rattle.text.proofs.DigitLaws.{blank-put, pair-turn}
 use borrow.Author.Needs.{needs}
 use Rattle.text.proofs.digits.write_below_100.Statement.{statement}

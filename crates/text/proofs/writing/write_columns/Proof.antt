@@ -7,7 +7,7 @@ use native.Mathlib.Omega.{arith}
 use lib.ListN.{length}
 use Rattle.text.specs.Writes.{put}
 use Rattle.text.specs.Decimals.{columns}
-use Rattle.text.specs.Stages.{Blank, four}
+use Rattle.text.specs.Inner.Stages.{Blank, four}
 use Rattle.text.proofs.DigitLaws.{blank-put, four-turn, four-last}
 use Rattle.text.proofs.writing.write_columns.Statement.{statement}
 use Rattle.text.proofs.writing.write_columns.Tie as tie

@@ -7,7 +7,7 @@ use borrow.Author.Needs.{needs}
 use lib.ListN.{length, length-set}
 use Rattle.text.specs.Writes.{put}
 use Rattle.text.specs.Decimals.{columns}
-use Rattle.text.specs.Stages.{Blank}
+use Rattle.text.specs.Inner.Stages.{Blank}
 use Rattle.text.proofs.DecimalLaws.{columns-turn, columns-end, blank-set, blank-end}
 use Rattle.text.proofs.writing.write_singles.Statement.{statement}
 use Rattle.text.proofs.writing.write_singles.Tie as tie

@@ -14,7 +14,7 @@ use mir.Facts.{toZ-ofZ}
 use Rattle.numeric.proofs.CheckLaws.{and-left, and-right}
 use Rattle.text_reading.specs.declared.Number.{Number}
 use Rattle.text_reading.specs.Reading.{isDigit, finish}
-use Rattle.text_reading.specs.Digits.{digitsSeen}
+use Rattle.text_reading.specs.Inner.Digits.{digitsSeen}
 use Rattle.text_reading.proofs.ReadingLaws.{digit-range}
 use Rattle.text_reading.proofs.DigitLoop.{Turn, turn-start, turn-fits, turn-more, turn-two, turn-not, two-not, turn-end, many-none}
 use Rattle.text_reading.proofs.reading.digits_after.Statement.{statement}

@@ -2,7 +2,7 @@
 use mathlib.Core.Path.{_∙_}
 use borrow.Author.Needs.{needs}
 use Rattle.numeric.proofs.Machine.{result-is}
-use Rattle.totals.specs.TotalsCode.{weightedTotal}
+use Rattle.totals.specs.Inner.TotalsCode.{weightedTotal}
 use Rattle.totals.proofs.cell_totals.total.Statement.{statement}
 use Rattle.totals.proofs.cell_totals.total.Tie as tie
 

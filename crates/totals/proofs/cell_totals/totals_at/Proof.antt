@@ -3,7 +3,7 @@ use Prim.Native.Nat.{ℕ}
 use borrow.Author.Needs.{needs}
 use lib.IntN.{ℤ}
 use Rattle.numeric.proofs.Machine.{result-is}
-use Rattle.totals.specs.TotalsCode.{weightsOf, weightedTotal, totalsAt}
+use Rattle.totals.specs.Inner.TotalsCode.{weightsOf, weightedTotal, totalsAt}
 use Rattle.totals.proofs.cell_totals.totals_at.Statement.{statement}
 use Rattle.totals.proofs.cell_totals.totals_at.Tie as tie
 

@@ -8,7 +8,7 @@ use mir.Val.{toZ}
 use Rattle.numeric.specs.Sum.{sum}
 use Rattle.numeric.proofs.SumLaws.{sum-none}
 use Rattle.stoichiometry.specs.Substances.{substances}
-use Rattle.totals.specs.TotalsCode.{heldBy, weightedTotal}
+use Rattle.totals.specs.Inner.TotalsCode.{heldBy, weightedTotal}
 use Rattle.totals.proofs.TotalsLaws.{held-fits, sum-fits, sum-next}
 use Rattle.totals.proofs.cell_totals.weighted_total.Statement.{statement}
 use Rattle.totals.proofs.cell_totals.weighted_total.Tie as tie

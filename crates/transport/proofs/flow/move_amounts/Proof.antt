@@ -4,7 +4,7 @@ use mathlib.Core.Path.{sym, ap, _∙_, subst}
 use lib.IntN.{ℤ}
 use Prim.Native.Nat.{_*_}
 use Rattle.stoichiometry.specs.Substances.{mostNet}
-use Rattle.transport.specs.Stages.{AmountsWithin, joinedOf}
+use Rattle.transport.specs.Inner.Stages.{AmountsWithin, joinedOf}
 use Rattle.transport.proofs.FlowLists.{stayed-small, joined-moved}
 use borrow.Author.Needs.{needs}
 use Rattle.transport.proofs.flow.move_amounts.Statement.{statement}

@@ -1,0 +1,3 @@
+-- Inner definitions, which inner functions and laws share. No contract of a public call cites one.
+pub mod Rating
+pub mod Stepping
