@@ -1,7 +1,7 @@
 -- What the writes leave in a buffer: one line, the lines of a cell, one cell more, the copy; and the number of a
 -- write by its checks. No assumptions.
 use mathlib.Core.Path.{_≡_, refl, sym, ap, ap₂, _∙_}
-use mathlib.Core.Bool.{true, false}
+use mathlib.Core.Bool.{Bool, true, false, cond}
 use mathlib.Core.List.{List, [], _∷_, _++_, append-assoc, append-nil}
 use Prim.Native.Nat.{ℕ, suc, _+_, _-_, _*_, _≤_, _<_}
 use native.Mathlib.Nat.{zero-add}
@@ -193,11 +193,11 @@ module _ (r : River) (output work : ℕ) where
 -- On refusal every byte of both buffers stays.
 pub output-stays : (number : ℕ) (r : River) (l : List ℕ) → eqb number 0 ≡ false → outputAfter number r l ≡ l
 unfolding outputAfter
-output-stays number r l e = rw e
+output-stays number r l e = ap (λ (b : Bool). cond b (put l 0 (recordOf r)) l) e
 
 pub work-stays : (number : ℕ) (r : River) (l : List ℕ) → eqb number 0 ≡ false → workAfter number r l ≡ l
 unfolding workAfter
-work-stays number r l e = rw e
+work-stays number r l e = ap (λ (b : Bool). cond b (put l 0 (recordOf r)) l) e
 
 -- Otherwise both begin with the record.
 pub output-written : (r : River) (l : List ℕ) → outputAfter 0 r l ≡ put l 0 (recordOf r)
