@@ -23,5 +23,5 @@ pub calls-balance : (set : Set) → Accepted set → (n : ℕ) → 1 ≤ n → n
     × ((i j : ℕ) → 1 ≤ i → i ≤ j → j ≤ n → (t : Total)
     → held set t (r .amounts) i j ≡ book set t i j (answered set calls (fresh .river)))
 calls-balance set accepted n low high calls =
-    let kept = after-keeps set calls n (zeroRiver n) (sound-zero n low high) in
+    let kept = after-keeps set n calls (zeroRiver n) (sound-zero n low high) in
     rw (fresh-accepted n low high) (refl, kept .right, kept .cells, fresh-balance set calls n low high)

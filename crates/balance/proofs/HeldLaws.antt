@@ -1,6 +1,6 @@
--- Laws of what cells i to j hold, for any set: one cell, two stretches of cells, equal cells, zeros, and how one amount
--- changed, a flow and a step change it. Each follows from a law on one cell (CellTotals.antt) by a law of sums.
--- No assumptions.
+-- Laws of what cells i to j hold, for any set: equal cells, zeros, and how one amount changed, a flow and a step change
+-- it. Each follows by a law of sums from a law on one cell: stoichiometry proofs/Totals.antt, CellBalance.antt. No
+-- assumptions.
 use Prim.Native.Nat.{ℕ, suc, _+_, _*_, _-_, _≤_, _<_}
 use mathlib.Core.Bool.{Bool, true, false, _&&_, cond, true≢false}
 use mathlib.Core.List.{List, [], _∷_}
@@ -21,11 +21,12 @@ use Rattle.kinetics.specs.declared.Conditions.{Conditions}
 use Rattle.river.specs.declared.River.{River}
 use Rattle.river.specs.Rivers.{mostCells}
 use Rattle.transport.specs.Flow.{movedOf}
-use Rattle.river.specs.Cells.{cellTotal}
+use Rattle.stoichiometry.specs.Totals.{cellTotal}
+use Rattle.stoichiometry.proofs.Totals.{added, cell-added, cell-beside}
 use Rattle.step.specs.Steps.{steppedAmounts}
 use Rattle.balance.specs.Calls.{among, listed}
 use Rattle.balance.specs.Held.{held}
-use Rattle.balance.proofs.CellTotals.{added, cell-added, cell-beside, cell-flow, step-keeps-cell}
+use Rattle.balance.proofs.CellBalance.{cell-flow, step-keeps-cell}
 
 module _ (set : Set) (t : Total) where
   -- Cells that hold the same.
@@ -39,37 +40,35 @@ module _ (set : Set) (t : Total) where
   unfolding held
   held-zero a i j e = sum-eq (suc j - i) _ (λ d. pos 0) (λ d l. e (i - 1 + d)) ∙ sum-zero (suc j - i)
 
-  -- A number added to an amount of one of the cells; of another cell; either way.
-  added-inside : (a : List ℤ) (c s : ℕ) (x : ℤ) (i j : ℕ) → s < substances → c * substances + s < length a
-      → 1 ≤ i → i ≤ suc c → suc c ≤ j → held set t (added a c s x) i j ≡ held set t a i j +ℤ contents set t s x
-  unfolding held
-  added-inside a c s x i j h l b p q =
-      let e : i - 1 + (suc c - i) ≡ c = omega arith in
-      sum-change (suc j - i) (suc c - i) (λ d. cellTotal set t a (i - 1 + d))
-      (λ d. cellTotal set t (added a c s x) (i - 1 + d)) (omega arith)
-      (λ d g. cell-beside set t a (i - 1 + d) c s x h (λ o. g (omega arith)))
-      ∙ rw (e, cell-added set t a c s x h l)
-      (solve (sum (suc j - i) (λ d. cellTotal set t a (i - 1 + d)) ∷ cellTotal set t a c ∷ contents set t s x ∷ [])
-      (v 0 ⊕ (v 1 ⊕ v 2 ⊖ v 1)) (v 0 ⊕ v 2) tt)
+  -- A number added to an amount: of one of the cells, of another cell, and either way.
+  module _
+      (a : List ℤ) (c s : ℕ) (x : ℤ) (i j : ℕ) (h : s < substances) (l : c * substances + s < length a)
+      (b : 1 ≤ i) where
+    added-inside : i ≤ suc c → suc c ≤ j → held set t (added a c s x) i j ≡ held set t a i j +ℤ contents set t s x
+    unfolding held
+    added-inside p q =
+        let e : i - 1 + (suc c - i) ≡ c = omega arith in
+        let at : List ℤ → ℕ → ℤ = λ list d. cellTotal set t list (i - 1 + d) in
+        sum-change (suc j - i) (suc c - i) (at a) (at (added a c s x)) (omega arith)
+        (λ d g. cell-beside set t a (i - 1 + d) c s x h (λ o. g (omega arith)))
+        ∙ rw (e, cell-added set t a c s x h l)
+        (solve (sum (suc j - i) (at a) ∷ cellTotal set t a c ∷ contents set t s x ∷ [])
+        (v 0 ⊕ (v 1 ⊕ v 2 ⊖ v 1)) (v 0 ⊕ v 2) tt)
 
-  added-beside : (a : List ℤ) (c s : ℕ) (x : ℤ) (i j : ℕ) → s < substances → 1 ≤ i
-      → (i ≤ suc c → suc c ≤ j → ⊥) → held set t (added a c s x) i j ≡ held set t a i j
-  added-beside a c s x i j h b out =
-      held-eq (added a c s x) a i j b (λ d p q. cell-beside set t a d c s x h (λ e. out (omega arith) (omega arith)))
+    added-beside : (i ≤ suc c → suc c ≤ j → ⊥) → held set t (added a c s x) i j ≡ held set t a i j
+    added-beside out =
+        held-eq (added a c s x) a i j b (λ d p q. cell-beside set t a d c s x h (λ e. out (omega arith) (omega arith)))
 
-  added-case : (a : List ℤ) (c s : ℕ) (x : ℤ) (i j : ℕ) → s < substances → c * substances + s < length a → 1 ≤ i
-      → (b : Bool) → among i j (suc c) ≡ b
-      → held set t (added a c s x) i j ≡ held set t a i j +ℤ cond b (contents set t s x) (pos 0)
-  added-case a c s x i j h l p true e =
-      let inside = leb-within i (suc c) j e in
-      added-inside a c s x i j h l p (inside .0) (inside .1)
-  added-case a c s x i j h l p false e =
-      added-beside a c s x i j h p (λ q r. true≢false (sym (ap₂ _&&_ (le-leb i (suc c) q) (le-leb (suc c) j r)) ∙ e))
-      ∙ sym (+ℤ-idr (held set t a i j))
-
-  pub held-added : (a : List ℤ) (c s : ℕ) (x : ℤ) (i j : ℕ) → s < substances → c * substances + s < length a → 1 ≤ i
-      → held set t (added a c s x) i j ≡ held set t a i j +ℤ cond (among i j (suc c)) (contents set t s x) (pos 0)
-  held-added a c s x i j h l p = added-case a c s x i j h l p (among i j (suc c)) refl
+    pub held-added : held set t (added a c s x) i j
+        ≡ held set t a i j +ℤ cond (among i j (suc c)) (contents set t s x) (pos 0)
+    held-added = by-cell (among i j (suc c)) refl
+      where
+        by-cell : (is : Bool) → among i j (suc c) ≡ is
+            → held set t (added a c s x) i j ≡ held set t a i j +ℤ cond is (contents set t s x) (pos 0)
+        by-cell true e = let inside = leb-within i (suc c) j e in added-inside (inside .0) (inside .1)
+        by-cell false e =
+            added-beside (λ q r. true≢false (sym (ap₂ _&&_ (le-leb i (suc c) q) (le-leb (suc c) j r)) ∙ e))
+            ∙ sym (+ℤ-idr (held set t a i j))
 
   -- A flow through the first n cells: cells i to j get what left cell i − 1 and give what left cell j.
   pub held-flow : (n : ℕ) (a left : List ℤ) (i j : ℕ) → 1 ≤ i → i ≤ j → j ≤ n → n ≤ mostCells
@@ -83,8 +82,8 @@ module _ (set : Set) (t : Total) where
       ∙ rw (add-zero, last)
 
   -- A step.
-  pub held-step : (given : Conditions) (r : River) (i j : ℕ) → 1 ≤ i → j ≤ r .cells → r .cells ≤ mostCells
-      → held set t (steppedAmounts set given r) i j ≡ held set t (r .amounts) i j
-  held-step given r i j h m most =
-      held-eq (steppedAmounts set given r) (r .amounts) i j h
-      (λ c p q. step-keeps-cell set t given r c (omega arith) (omega arith))
+  pub held-step : (conditions : Conditions) (r : River) (i j : ℕ) → 1 ≤ i → j ≤ r .cells → r .cells ≤ mostCells
+      → held set t (steppedAmounts set conditions r) i j ≡ held set t (r .amounts) i j
+  held-step conditions r i j h m most =
+      held-eq (steppedAmounts set conditions r) (r .amounts) i j h
+      (λ c p q. step-keeps-cell set t conditions r c (omega arith) (omega arith))

@@ -25,88 +25,82 @@ use Rattle.river.specs.declared.River.{River}
 use Rattle.river.specs.Rivers.{mostCells, amountFits, amountsFit, carriesFit, riverWrong, zeroRiver, mostCarry}
 use Rattle.transport.specs.Load.{withAmount}
 use Rattle.transport.specs.Flow.{movedOf}
-use Rattle.river.proofs.Rivers.{river-cells, river-amounts, river-carries, river-right, zero-right}
+use Rattle.river.proofs.Rivers.{AmountPlaced, amounts-at, amounts-from}
+use Rattle.river.proofs.Rivers.{river-cells, river-amounts, river-carries, river-fits}
+use Rattle.river.proofs.FreshLaws.{zero-right}
 use Rattle.step.specs.Steps.{newCarry, steppedAmounts, steppedCarries, stepped}
 
 -- A river of n cells with places for the amounts of all cells, of which check 4 does not hold.
-pub record Sound (n : ℕ) (r : River) : Type 0 where
+pub record SoundRiver (n : ℕ) (r : River) : Type 0 where
   pub cells : r .cells ≡ n
   pub long : length (r .amounts) ≡ mostCells * substances
   pub right : riverWrong r ≡ false
 
-pub sound-cells : (n : ℕ) (r : River) → Sound n r → (1 ≤ n) × (n ≤ mostCells)
+pub sound-cells : (n : ℕ) (r : River) → SoundRiver n r → (1 ≤ n) × (n ≤ mostCells)
 sound-cells n r s = omega (arith, s .cells, river-cells r (s .right))
 
 -- With other amounts and carries that fit it is sound again.
-pub sound-again : (n : ℕ) (r : River) → Sound n r → (amounts : List ℤ) (carries : List ℕ)
+pub sound-again : (n : ℕ) (r : River) → SoundRiver n r → (amounts : List ℤ) (carries : List ℕ)
     → length amounts ≡ mostCells * substances → amountsFit (r .cells) amounts ≡ true
     → carriesFit (r .cells) carries ≡ true
-    → Sound n (record { cells = r .cells; amounts = amounts; carries = carries })
+    → SoundRiver n (record { cells = r .cells; amounts = amounts; carries = carries })
 sound-again n r s amounts carries long e f =
-    record { cells = s .cells; long = long; right = river-right _ (river-cells r (s .right) .0) (river-cells r (s .right) .1) e f }
+    let cells = river-cells r (s .right) in
+    record { cells = s .cells; long = long; right = river-fits _ (cells .0) (cells .1) e f }
 
-pub sound-carries : (n : ℕ) (r : River) → Sound n r → carriesFit (r .cells) (r .carries) ≡ true
+pub sound-carries : (n : ℕ) (r : River) → SoundRiver n r → carriesFit (r .cells) (r .carries) ≡ true
 sound-carries n r s = river-carries r (s .right)
 
--- An amount at place k fits a river of n cells.
-abbrev fitsAt : ℕ → ℕ → ℤ → Bool
-fitsAt n k x = cond (ltb (k / substances) n) (amountFits (k % substances) x) (eqb (natAbs x) 0)
-
-set-at : (n : ℕ) (a : List ℤ) (k : ℕ) (x : ℤ) → k < length a → fitsAt n k x ≡ true → (i : ℕ)
-    → fitsAt n i (getD a i (pos 0)) ≡ true → Dec (i ≡ k) → fitsAt n i (getD (set a k x) i (pos 0)) ≡ true
-set-at n a k x l h i old (yes e) = rw (e, getD-set-same a k x (pos 0) l) h
-set-at n a k x l h i old (no d) = rw (getD-set-other a k i x (pos 0) d) old
-
--- One amount changed to one that fits.
-set-fits : (n : ℕ) (a : List ℤ) (k : ℕ) (x : ℤ) → k < length a → fitsAt n k x ≡ true → amountsFit n a ≡ true
-    → amountsFit n (set a k x) ≡ true
-unfolding amountsFit
-set-fits n a k x l h e =
-    every-all (mostCells * substances) _
-    (λ i j. set-at n a k x l h i (every-at (mostCells * substances) i _ e j) (ℕ-discrete i k))
+-- One amount changed to one that fits, in one of the first n cells.
+set-fits : (n : ℕ) (a : List ℤ) (k : ℕ) (x : ℤ) → k < length a → k < n * substances
+    → amountFits (k % substances) x ≡ true → amountsFit n a ≡ true → amountsFit n (set a k x) ≡ true
+set-fits n a k x there inside fits e = amounts-from n (set a k x) (λ i h. at i (ℕ-discrete i k) (amounts-at n a e i h))
+  where
+    at : (i : ℕ) → Dec (i ≡ k) → AmountPlaced n a i → AmountPlaced n (set a k x) i
+    at i (yes q) old = (λ l. rw (q, getD-set-same a k x (pos 0) there) fits, λ l. absurd (omega arith))
+    at i (no d) old = rw (getD-set-other a k i x (pos 0) d) old
 
 -- An amount changed, as check 8 lets pass.
-pub sound-amount : (n : ℕ) (r : River) → Sound n r → (c s : ℕ) (x : ℤ) → c < n → s < substances
-    → amountFits s x ≡ true → Sound n (withAmount r c s x)
+pub sound-amount : (n : ℕ) (r : River) → SoundRiver n r → (c s : ℕ) (x : ℤ) → c < n → s < substances
+    → amountFits s x ≡ true → SoundRiver n (withAmount r c s x)
 sound-amount n r sound c s x h l e =
     let most = sound-cells n r sound .1 in
     sound-again n r sound (set (r .amounts) (c * substances + s) x) (r .carries)
     (length-set (r .amounts) (c * substances + s) x ∙ sound .long)
-    (set-fits (r .cells) (r .amounts) (c * substances + s) x (omega (arith, sound .long))
-    (rw (digits-div c l, digits-mod c l, lt-ltb c (r .cells) (omega (arith, sound .cells))) e)
-    (river-amounts r (sound .right)))
+    (set-fits (r .cells) (r .amounts) (c * substances + s) x (omega (arith, sound .long)) (omega (arith, sound .cells))
+    (rw (digits-mod c l) e) (river-amounts r (sound .right)))
     (sound-carries n r sound)
 
--- A carry after a step is a remainder, and 0 beyond the last cell.
-carry-case : (x : ℕ) (b : Bool) → cond b (leb (cond b (x % 1000000) 0) mostCarry) (eqb (cond b (x % 1000000) 0) 0) ≡ true
-carry-case x true = le-leb (x % 1000000) mostCarry (omega arith)
-carry-case x false = refl
-
-module _ (set : Set) (given : Conditions) where
-  stepped-carries-fit : (r : River) → carriesFit (r .cells) (steppedCarries set given r) ≡ true
+module _ (set : Set) (conditions : Conditions) where
+  -- A carry after a step is a remainder, and 0 beyond the last cell.
+  stepped-carries-fit : (r : River) → carriesFit (r .cells) (steppedCarries set conditions r) ≡ true
   unfolding carriesFit steppedCarries newCarry grid
   stepped-carries-fit r =
       every-all (mostCells * processes) _
-      (λ k l. rw (getD-tab {A = ℕ} (mostCells * processes) _ k 0 l) (carry-case _ (ltb (k / processes) (r .cells))))
+      (λ k l. rw (getD-tab {A = ℕ} (mostCells * processes) _ k 0 l) (by-cell _ (ltb (k / processes) (r .cells))))
+    where
+      by-cell : (x : ℕ) (b : Bool) → let y = cond b (x % 1000000) 0 in cond b (leb y mostCarry) (eqb y 0) ≡ true
+      by-cell x true = le-leb (x % 1000000) mostCarry (omega arith)
+      by-cell x false = refl
 
   -- A step that check 8 lets pass.
-  pub sound-step : (n : ℕ) (r : River) → Sound n r → amountsFit (r .cells) (steppedAmounts set given r) ≡ true
-      → Sound n (stepped set given r)
+  pub sound-step : (n : ℕ) (r : River) → SoundRiver n r → amountsFit (r .cells) (steppedAmounts set conditions r) ≡ true
+      → SoundRiver n (stepped set conditions r)
   unfolding steppedAmounts
   sound-step n r s e =
-      sound-again n r s (steppedAmounts set given r) (steppedCarries set given r)
+      sound-again n r s (steppedAmounts set conditions r) (steppedCarries set conditions r)
       (grid-length mostCells substances (r .cells) (pos 0) _) e (stepped-carries-fit r)
 
 -- A flow that check 8 lets pass.
-pub sound-flow : (n : ℕ) (r : River) → Sound n r → (left : List ℤ)
+pub sound-flow : (n : ℕ) (r : River) → SoundRiver n r → (left : List ℤ)
     → amountsFit (r .cells) (movedOf (r .cells) (r .amounts) left) ≡ true
-    → Sound n (record { cells = r .cells; amounts = movedOf (r .cells) (r .amounts) left; carries = r .carries })
+    → SoundRiver n (record { cells = r .cells; amounts = movedOf (r .cells) (r .amounts) left; carries = r .carries })
 unfolding movedOf
 sound-flow n r s left e =
     sound-again n r s (movedOf (r .cells) (r .amounts) left) (r .carries) (tab-length (mostCells * substances) _) e
     (sound-carries n r s)
 
 -- A fresh river is sound.
-pub sound-zero : (n : ℕ) → 1 ≤ n → n ≤ mostCells → Sound n (zeroRiver n)
+pub sound-zero : (n : ℕ) → 1 ≤ n → n ≤ mostCells → SoundRiver n (zeroRiver n)
 sound-zero n h l =
     record { cells = refl; long = length-replicate (mostCells * substances) (pos 0); right = zero-right n h l }

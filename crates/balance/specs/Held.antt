@@ -10,19 +10,19 @@ use Rattle.river.specs.declared.River.{River}
 use Rattle.transport.specs.Load.{loadAnswer}
 use Rattle.transport.specs.Flow.{flowAnswer}
 use Rattle.transport.specs.Air.{airAnswer}
-use Rattle.river.specs.Cells.{cellTotal}
+use Rattle.stoichiometry.specs.Totals.{cellTotal}
 use Rattle.step.specs.Steps.{stepAnswer}
 use Rattle.balance.specs.Calls.{Call, load, flow, air, step, Answer, Entry}
 
 -- A call done: its answer and the river it hands on.
-pub record Done : Type 0 where
+pub record CallDone : Type 0 where
   pub answer : Answer
   pub river : River
 
 -- What a call does to a river, under the list's one set.
-unfoldable pub act : Set → Call → River → Done
-act set (load cell substance number) r =
-    let a = loadAnswer r cell substance number in
+unfoldable pub act : Set → Call → River → CallDone
+act set (load cell substance added) r =
+    let a = loadAnswer r cell substance added in
     record { answer = record { number = a .number; left = []; amount = pos 0 }; river = a .river }
 act set (flow part) r =
     let a = flowAnswer r part in
@@ -30,8 +30,8 @@ act set (flow part) r =
 act set (air cell k seconds saturation) r =
     let a = airAnswer r cell k seconds saturation in
     record { answer = record { number = a .number; left = []; amount = a .amount }; river = a .river }
-act set (step given) r =
-    let a = stepAnswer set r given in
+act set (step conditions) r =
+    let a = stepAnswer set r conditions in
     record { answer = record { number = a .number; left = []; amount = pos 0 }; river = a .river }
 
 -- The river after a list of calls.

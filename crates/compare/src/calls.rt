@@ -17,7 +17,7 @@ use kinetics::Conditions;
 use kinetics::Temperatures;
 use river::Changed;
 use river::River;
-use river::Totals;
+use totals::Totals;
 
 // What a call answered. A call that answers no river hands on the one it got.
 pub(crate) struct Answer {

@@ -36,7 +36,8 @@ takes-nitrogen-is set =
     sym (ap (λ (z : ℤ). ltZ z (pos 0)) (nh4-entry set) ∙ ltZ-scale 22320 n (lit< tt))
 
 -- In the list of all rows.
-pub takes-nitrogen-row : (set : Set) → takesNitrogen set ≡ ltZ (getD (rowsOf set) (0 * substances + place nh4) (pos 0)) (pos 0)
+pub takes-nitrogen-row : (set : Set)
+    → takesNitrogen set ≡ ltZ (getD (rowsOf set) (0 * substances + place nh4) (pos 0)) (pos 0)
 takes-nitrogen-row set =
     takes-nitrogen-is set ∙ sym (ap (λ (z : ℤ). ltZ z (pos 0)) (getD-rows set 0 (place nh4) (lit< tt) (lit< tt)))
 

@@ -16,5 +16,7 @@ temperaturesFit t =
 
 -- Check 6 of a step: seconds outside 1 to 3,600, light above 10^6, or a temperature factor above 4,000,000.
 unfoldable pub conditionsWrong : Conditions → Bool
-conditionsWrong given =
-    not (inRange 1 mostSeconds (given .seconds) && leb (given .light) 1000000 && temperaturesFit (given .temperatures))
+conditionsWrong conditions =
+    not
+    (inRange 1 mostSeconds (conditions .seconds) && leb (conditions .light) 1000000
+    && temperaturesFit (conditions .temperatures))

@@ -7,7 +7,8 @@ use lib.ListN.{getD}
 use lib.IntN.{ℤ, pos}
 use lib.Signed.{ltZ}
 use Rattle.stoichiometry.specs.declared.Set.{Set}
-use Rattle.stoichiometry.specs.Substances.{Substance, organic, ss, xh, xn1, xn2, xalg, xs, nh4, no2, no3, hpo4, o2, xp, place}
+use Rattle.stoichiometry.specs.Substances.{Substance, organic, ss, xh, xn1, xn2, xalg, xs, nh4, no2, no3, hpo4, o2}
+use Rattle.stoichiometry.specs.Substances.{xp, place}
 use Rattle.stoichiometry.specs.Levels.{levelOf}
 use Rattle.stoichiometry.specs.Rows.{released, processAt, rowEntry}
 use Rattle.kinetics.specs.declared.Conditions.{Conditions}
@@ -44,19 +45,24 @@ ratesOf set =
     let g = set .half .algae in
     let nitrogen = takesNitrogen set in
     rate (k .aerobic .growth) (organic xh)
-    (by (organic ss) (a .ss) ∷ by o2 (a .o2) ∷ byIf nitrogen nh4 (a .nitrogen) ∷ phosphate (a .phosphate) ∷ temperature ofXh ∷ [])
+    (by (organic ss) (a .ss) ∷ by o2 (a .o2) ∷ byIf nitrogen nh4 (a .nitrogen) ∷ phosphate (a .phosphate)
+    ∷ temperature ofXh ∷ [])
     ∷ rate (k .aerobic .growth) (organic xh)
-    (by (organic ss) (a .ss) ∷ by o2 (a .o2) ∷ inhibitedBy nh4 (a .nitrogen) ∷ by no3 (a .nitrogen) ∷ phosphate (a .phosphate)
-    ∷ temperature ofXh ∷ zeroUnless nitrogen ∷ [])
+    (by (organic ss) (a .ss) ∷ by o2 (a .o2) ∷ inhibitedBy nh4 (a .nitrogen) ∷ by no3 (a .nitrogen)
+    ∷ phosphate (a .phosphate) ∷ temperature ofXh ∷ zeroUnless nitrogen ∷ [])
     ∷ rate (k .aerobic .respiration) (organic xh) (by o2 (a .o2) ∷ temperature ofXh ∷ [])
     ∷ rate (k .anoxic .growth) (organic xh)
-    (by (organic ss) (d .ss) ∷ inhibitedBy o2 (d .o2) ∷ by no3 (d .no3) ∷ phosphate (d .phosphate) ∷ temperature ofXh ∷ [])
+    (by (organic ss) (d .ss) ∷ inhibitedBy o2 (d .o2) ∷ by no3 (d .no3) ∷ phosphate (d .phosphate)
+    ∷ temperature ofXh ∷ [])
     ∷ rate (k .anoxic .growth) (organic xh)
-    (by (organic ss) (d .ss) ∷ inhibitedBy o2 (d .o2) ∷ by no2 (d .no2) ∷ phosphate (d .phosphate) ∷ temperature ofXh ∷ [])
+    (by (organic ss) (d .ss) ∷ inhibitedBy o2 (d .o2) ∷ by no2 (d .no2) ∷ phosphate (d .phosphate)
+    ∷ temperature ofXh ∷ [])
     ∷ rate (k .anoxic .respiration) (organic xh) (inhibitedBy o2 (d .o2) ∷ by no3 (d .no3) ∷ temperature ofXh ∷ [])
-    ∷ rate (k .xn1 .growth) (organic xn1) (by o2 (n .o2) ∷ by nh4 (n .nh4) ∷ phosphate (n .phosphate) ∷ temperature ofXn1 ∷ [])
+    ∷ rate (k .xn1 .growth) (organic xn1)
+    (by o2 (n .o2) ∷ by nh4 (n .nh4) ∷ phosphate (n .phosphate) ∷ temperature ofXn1 ∷ [])
     ∷ rate (k .xn1 .respiration) (organic xn1) (by o2 (n .o2) ∷ temperature ofXn1 ∷ [])
-    ∷ rate (k .xn2 .growth) (organic xn2) (by o2 (m .o2) ∷ by no2 (m .no2) ∷ phosphate (m .phosphate) ∷ temperature ofXn2 ∷ [])
+    ∷ rate (k .xn2 .growth) (organic xn2)
+    (by o2 (m .o2) ∷ by no2 (m .no2) ∷ phosphate (m .phosphate) ∷ temperature ofXn2 ∷ [])
     ∷ rate (k .xn2 .respiration) (organic xn2) (by o2 (m .o2) ∷ temperature ofXn2 ∷ [])
     ∷ rate (k .algae .ammonium) (organic xalg)
     (byNitrogen (g .nitrogen) ∷ by nh4 (g .nh4) ∷ phosphate (g .phosphate) ∷ light ∷ temperature ofAlgae ∷ [])
@@ -79,7 +85,7 @@ rateAt set p = getD (ratesOf set) p noRate
 
 -- The product p of the process at a place, in a cell with these levels: 10^6, taken by each factor.
 unfoldable pub productAt : Set → Conditions → (Substance → ℕ) → ℕ → ℕ
-productAt set given level p = takenByAll given level (takesPhosphate set p) (rateAt set p .factors) 1000000
+productAt set conditions level p = takenByAll conditions level (takesPhosphate set p) (rateAt set p .factors) 1000000
 
 -- The levels of a cell with these amounts by place.
 abbrev pub levelsOf : (ℕ → ℤ) → Substance → ℕ
@@ -87,8 +93,10 @@ levelsOf amount s = levelOf s (amount (place s))
 
 -- q = k × p × seconds / 86,400, rounded down, of the process at a place.
 unfoldable pub quotaAt : Set → Conditions → (ℕ → ℤ) → ℕ → ℕ
-quotaAt set given amount p = rateAt set p .k * productAt set given (levelsOf amount) p * given .seconds / secondsPerDay
+quotaAt set conditions amount p =
+    rateAt set p .k * productAt set conditions (levelsOf amount) p * conditions .seconds / secondsPerDay
 
 -- Its extent in millionths of a batch: X × q / (1,000 × b), rounded down.
 unfoldable pub extentAt : Set → Conditions → (ℕ → ℤ) → ℕ → ℕ
-extentAt set given amount p = levelsOf amount (rateAt set p .x) * quotaAt set given amount p / (1000 * processAt set p .batch)
+extentAt set conditions amount p =
+    levelsOf amount (rateAt set p .x) * quotaAt set conditions amount p / (1000 * processAt set p .batch)

@@ -1,8 +1,9 @@
-// How fast the processes run: levels, factors, products and extents of one cell; the conditions that a step is given, and
-// their check.
+// How fast the processes run: levels, factors, products and extents of one cell; the conditions that a step is given,
+// and their check.
 ghost use mathlib.Core.Path.{_≡_};
 ghost use Rattle.kinetics.specs.Conditions.{temperaturesFit, conditionsWrong};
 use numeric::both;
+use numeric::in_range;
 use stoichiometry::Seconds;
 
 // Temperature factors, millionths: of XH, XN1, XN2, XALG and hydrolysis.
@@ -43,13 +44,13 @@ fn temperatures_fit(t: Temperatures) -> bool
 }
 
 // Check 6 of a step.
-pub fn conditions_wrong(given: Conditions) -> bool
-    ensures answer { λ r. ⌜ r ≡ conditionsWrong given ⌝ }
+pub fn conditions_wrong(conditions: Conditions) -> bool
+    ensures answer { λ r. ⌜ r ≡ conditionsWrong conditions ⌝ }
 {
-    let seconds = both(
-        Seconds::LEAST <= given.seconds,
-        given.seconds <= Seconds::MOST,
-    );
-    let light = given.light <= Conditions::LIGHT_MOST;
-    !both(both(seconds, light), temperatures_fit(given.temperatures))
+    let seconds = in_range(Seconds::LEAST, Seconds::MOST, conditions.seconds);
+    let light = conditions.light <= Conditions::LIGHT_MOST;
+    !both(
+        both(seconds, light),
+        temperatures_fit(conditions.temperatures),
+    )
 }

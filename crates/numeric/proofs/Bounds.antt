@@ -1,10 +1,11 @@
 -- Bounds: `natAbs z ≤ b` says −b ≤ z ≤ b, in ℕ, where `omega` reads it. How bounds go through sums, products and
 -- stores, and back to the order of ℤ. Bounds of whole expressions by computation: Fitting.antt. No assumptions.
 use mathlib.Core.Path.{_≡_, refl, ap}
-use mathlib.Core.List.{[], _∷_}
-use Prim.Native.Nat.{ℕ, zero, suc, _+_, _*_, _^_, _≤_, _<_}
+use mathlib.Core.List.{List, [], _∷_, map}
+use Prim.Native.Nat.{ℕ, zero, suc, _+_, _*_, _^_, _≤_, _<_, zero-le}
 use native.Mathlib.Omega.{arith}
 use native.Mathlib.Nat.{mul-le-mul, lt-of-le-of-lt}
+use lib.ListN.{getD}
 use lib.IntN.{ℤ, pos, negsuc, negℤ, natAbs, _+ℤ_, _-ℤ_, _*ℤ_}
 use lib.Signed.{mag, _≤ℤ_}
 use mir.Syntax.{w64}
@@ -15,6 +16,16 @@ use Rattle.numeric.proofs.Expression.{v, #, _⊕_, ⊝, at-most, at-mos
 pub abs-parts : (z : ℤ) → natAbs z ≡ up z + dn z
 abs-parts (pos n) = omega arith
 abs-parts (negsuc n) = omega arith
+
+-- The parts of a larger number.
+pub parts-mono : (x y : ℤ) → x ≤ℤ y → (up x ≤ up y) × (dn y ≤ dn x)
+parts-mono x y h = by-sign x y (at-most-of (x ∷ y ∷ []) (v 0) (v 1) h)
+  where
+    by-sign : (x y : ℤ) → up x + dn y ≤ up y + dn x → (up x ≤ up y) × (dn y ≤ dn x)
+    by-sign (pos a) (pos b) k = (omega arith, omega arith)
+    by-sign (pos a) (negsuc b) k = (omega arith, omega arith)
+    by-sign (negsuc a) (pos b) k = (omega arith, omega arith)
+    by-sign (negsuc a) (negsuc b) k = (omega arith, omega arith)
 
 pub mag-abs : (z : ℤ) → mag z ≤ natAbs z
 mag-abs (pos n) = omega arith
@@ -47,6 +58,13 @@ abs-sub a b = omega (arith, abs-add a (negℤ b), abs-neg b)
 -- A product under bounds.
 pub abs-mul-le : (a b : ℤ) {x y : ℕ} → natAbs a ≤ x → natAbs b ≤ y → natAbs (a *ℤ b) ≤ x * y
 abs-mul-le a b h k = rw abs-mul (mul-le-mul h k)
+
+-- An element of a list made of l, under a bound that is so made.
+pub abs-at : {A : Type 0} (l : List A) (f : A → ℤ) (b : A → ℕ) (k : ℕ) → ((a : A) → natAbs (f a) ≤ b a)
+    → natAbs (getD (map f l) k (pos 0)) ≤ getD (map b l) k 0
+abs-at [] f b k h = zero-le
+abs-at (a ∷ l) f b zero h = h a
+abs-at (a ∷ l) f b (suc k) h = abs-at l f b k h
 
 abs-parts-le : (z : ℤ) (b : ℕ) → up z ≤ b + dn z → dn z ≤ b + up z → natAbs z ≤ b
 abs-parts-le (pos n) b h k = omega arith

@@ -1,7 +1,7 @@
 -- Laws of `every` and `allOf`, as the invariant of a checking loop wants them (start, a turn, both exits), of `every`
 -- as its users do, and of `firstHolding`. No assumptions.
 use Prim.Native.Nat.{ℕ, zero, suc, _<_, _≤_, _+_, _*_, _-_, _/_}
-use mathlib.Core.Bool.{Bool, true, false, _&&_, and-assoc, and-true, cond}
+use mathlib.Core.Bool.{Bool, true, false, not, _&&_, and-assoc, and-true, cond, true≢false}
 use mathlib.Core.List.{List, [], _∷_, _++_}
 use mathlib.Core.Path.{_≡_, refl, sym, ap, ap₂, _∙_}
 use native.Mathlib.Numerals.{add-one}
@@ -9,9 +9,10 @@ use native.Mathlib.Nat.{lt-suc-self, le-refl, add-zero, add-suc, zero-mul, suc-m
 use native.Mathlib.Decide.{decLt}
 use native.Mathlib.Omega.{arith}
 use lib.Dec.{leb, ltb, eqb}
+use lib.IntN.{ℤ, pos, natAbs}
 use lib.ListN.{length, getD, take}
 use lib.Seq.{take-suc, take-all}
-use borrow.Author.Tests.{ne-eqb, leb-true, ltb-true, lt-ltb, le-ltb}
+use borrow.Author.Tests.{ne-eqb, eqb-true, eqb-false, not-true, leb-true, ltb-true, lt-ltb, le-ltb}
 use Rattle.numeric.specs.Check.{every, allOf, Check, _when_, firstHolding}
 
 pub and-left : (a b : Bool) → a && b ≡ true → a ≡ true
@@ -43,7 +44,8 @@ pub every-more : (n : ℕ) (p : ℕ → Bool) → every n p ≡ true → p n ≡
 unfolding every
 every-more n p e h = rw (add-one, e, h)
 
-fails-at : (n i : ℕ) (p : ℕ → Bool) → i < suc n → p i ≡ false → (i < n → every n p ≡ false) → Dec (i < n) → every n p && p n ≡ false
+fails-at : (n i : ℕ) (p : ℕ → Bool) → i < suc n → p i ≡ false → (i < n → every n p ≡ false) → Dec (i < n)
+    → every n p && p n ≡ false
 fails-at n i p h e r (yes l) = ap (λ (b : Bool). b && p n) (r l)
 fails-at n i p h e r (no g) = let q : i ≡ n = omega arith in rw (← q, e) (and-false (every i p))
 
@@ -52,7 +54,8 @@ unfolding every
 every-fails zero i p h e = absurd (omega arith)
 every-fails (suc n) i p h e = fails-at n i p h e (λ l. every-fails n i p l e) (decLt i n)
 
-at-below : (n i : ℕ) (p : ℕ → Bool) → i < suc n → every n p && p n ≡ true → (i < n → p i ≡ true) → Dec (i < n) → p i ≡ true
+at-below : (n i : ℕ) (p : ℕ → Bool) → i < suc n → every n p && p n ≡ true → (i < n → p i ≡ true) → Dec (i < n)
+    → p i ≡ true
 at-below n i p h e r (yes l) = r l
 at-below n i p h e r (no g) = let q : i ≡ n = omega arith in rw q (and-right (every n p) (p n) e)
 
@@ -104,6 +107,22 @@ every-split w n m p q h l =
     ∙ ap₂ _&&_ (every-eq (n * w) test p (λ i k. rw (row-in w n i h k)))
     (every-eq rest (λ i. test (n * w + i)) (λ i. q (n * w + i)) (λ i k. rw (row-beyond w n (n * w + i) h (omega arith))))
 
+-- The same number by number: the test of one in the first n rows and of one beyond them, and back.
+module _ (w n m : ℕ) (p q : ℕ → Bool) (some : 0 < w) where
+  pub split-at : every (m * w) (λ k. cond (ltb (k / w) n) (p k) (q k)) ≡ true → (k : ℕ) → k < m * w
+      → (k < n * w → p k ≡ true) × (n * w ≤ k → q k ≡ true)
+  split-at e k h =
+      let test = every-at (m * w) k (λ j. cond (ltb (j / w) n) (p j) (q j)) e h in
+      (λ l. rw (row-in w n k some l) at test, λ l. rw (row-beyond w n k some l) at test)
+
+  pub split-all : ((k : ℕ) → k < m * w → (k < n * w → p k ≡ true) × (n * w ≤ k → q k ≡ true))
+      → every (m * w) (λ k. cond (ltb (k / w) n) (p k) (q k)) ≡ true
+  split-all h = every-all (m * w) (λ k. cond (ltb (k / w) n) (p k) (q k)) (λ k l. by-row k l (decLt k (n * w)))
+    where
+      by-row : (k : ℕ) → k < m * w → Dec (k < n * w) → cond (ltb (k / w) n) (p k) (q k) ≡ true
+      by-row k l (yes j) = rw (row-in w n k some j) (h k l .0 j)
+      by-row k l (no g) = let j : n * w ≤ k = omega arith in rw (row-beyond w n k some j) (h k l .1 j)
+
 -- A loop over a list has passed `take i xs`; `d` is what `getD` answers past the end.
 module _ {A : Type 0} (p : A → Bool) where
   pub allOf-nil : allOf p [] ≡ true
@@ -135,24 +154,32 @@ module _ {A : Type 0} (p : A → Bool) where
   allOf-at (x ∷ xs) zero d e h = and-left (p x) (allOf p xs) e
   allOf-at (x ∷ xs) (suc i) d e h = allOf-at xs i d (and-right (p x) (allOf p xs) e) (omega arith)
 
+-- The numbers of a list are from −m to m, by computation.
+pub abs-all-at : (m : ℕ) (l : List ℤ) (k : ℕ) → allOf (λ z. leb (natAbs z) m) l ≡ true → k < length l
+    → natAbs (getD l k (pos 0)) ≤ m
+abs-all-at m l k e h = leb-true _ m (allOf-at (λ z. leb (natAbs z) m) l k (pos 0) e h)
+
 pub first-nil : firstHolding [] ≡ 0
 unfolding firstHolding
 first-nil = refl
 
 -- The first check holds: its number.
-pub first-holds : (number : ℕ) (holds : Bool) (checks : List Check) → holds ≡ true → firstHolding (number when holds ∷ checks) ≡ number
+pub first-holds : (number : ℕ) (holds : Bool) (checks : List Check) → holds ≡ true
+    → firstHolding (number when holds ∷ checks) ≡ number
 unfolding firstHolding
 first-holds number true checks e = refl
 first-holds number false checks e = cc
 
 -- It does not: the number of the others.
-pub first-fails : (number : ℕ) (holds : Bool) (checks : List Check) → holds ≡ false → firstHolding (number when holds ∷ checks) ≡ firstHolding checks
+pub first-fails : (number : ℕ) (holds : Bool) (checks : List Check) → holds ≡ false
+    → firstHolding (number when holds ∷ checks) ≡ firstHolding checks
 unfolding firstHolding
 first-fails number true checks e = cc
 first-fails number false checks e = refl
 
 -- No check holds where the number is 0 and the first check's number is not.
-pub first-zero : (number : ℕ) (holds : Bool) (checks : List Check) → 0 < number → firstHolding (number when holds ∷ checks) ≡ 0 → holds ≡ false
+pub first-zero : (number : ℕ) (holds : Bool) (checks : List Check) → 0 < number
+    → firstHolding (number when holds ∷ checks) ≡ 0 → holds ≡ false
 unfolding firstHolding
 first-zero number true checks h e = let z : _≡_ {A = ℕ} 0 1 = omega arith in cc
 first-zero number false checks h e = refl
@@ -184,3 +211,24 @@ first-append (number when true ∷ xs) ys e =
     let above = ltb-true 0 number (and-left (ltb 0 number) (numbered xs) e) in
     rw (ne-eqb number 0 (λ z. omega arith))
 first-append (number when false ∷ xs) ys e = first-append xs ys (and-right (ltb 0 number) (numbered xs) e)
+
+-- A last check that does not hold where none before it does, and whose number is its own, never decides.
+pub first-last : (checks : List Check) (number : ℕ) (holds : Bool) → 0 < number
+    → allOf (λ c. elim c [ m when h ↦ not (eqb m number) ]) checks ≡ true → (NoneHolds checks → holds ≡ false)
+    → firstHolding (checks ++ (number when holds ∷ [])) ≡ number → ⊥
+unfolding firstHolding allOf
+first-last [] number true above own never e = true≢false (never tt)
+first-last [] number false above own never e = omega arith
+first-last (m when true ∷ checks) number holds above own never e =
+    eqb-false m number (not-true _ (and-left (not (eqb m number)) _ own)) e
+first-last (m when false ∷ checks) number holds above own never e =
+    first-last checks number holds above (and-right (not (eqb m number)) _ own) (λ none. never (refl, none)) e
+
+-- A fact of an answer by its number: no check holds, or one does.
+pub by-number : {A : Type 0} (P : A → Type 0) (n : ℕ) (x y : A) → (n ≡ 0 → P x) → ((n ≡ 0 → ⊥) → P y)
+    → P (cond (eqb n 0) x y)
+by-number P n x y accepted refused = go (eqb n 0) refl
+  where
+    go : (b : Bool) → eqb n 0 ≡ b → P (cond b x y)
+    go true e = accepted (eqb-true n 0 e)
+    go false e = refused (eqb-false n 0 e)

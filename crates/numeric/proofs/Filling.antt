@@ -15,7 +15,8 @@ use Rattle.numeric.specs.Table.{tab, run}
 use Rattle.numeric.proofs.TableLaws.{tab-length, getD-tab}
 
 module _ {A : Type 0} where
-  tab-more : (f : ℕ → A) (l : List A) (k : ℕ) (v : A) → k < length l → take k l ≡ tab k f → v ≡ f k → take (k + 1) (set l k v) ≡ tab (k + 1) f
+  tab-more : (f : ℕ → A) (l : List A) (k : ℕ) (v : A) → k < length l → take k l ≡ tab k f → v ≡ f k
+      → take (k + 1) (set l k v) ≡ tab (k + 1) f
   unfolding tab
   tab-more f l k v h e p = rw (add-one, take-suc-set l k v h, e, p)
 
@@ -29,7 +30,8 @@ module _ {A : Type 0} where
   unfolding tab
   fill-none n f l e = record { within = omega arith; long = e; done = refl }
 
-  pub fill-more : (n k : ℕ) (f : ℕ → A) (l : List A) (v : A) → Filled n k f l → k < n → v ≡ f k → Filled n (k + 1) f (set l k v)
+  pub fill-more : (n k : ℕ) (f : ℕ → A) (l : List A) (v : A) → Filled n k f l → k < n → v ≡ f k
+      → Filled n (k + 1) f (set l k v)
   fill-more n k f l v i h e =
       record { within = omega arith; long = length-set l k v ∙ i .long; done = tab-more f l k v (rw (i .long) h) (i .done) e }
 
@@ -43,7 +45,8 @@ module _ {A : Type 0} where
   unfolding run
   run-none l b f = refl
 
-  pub run-more : (l : List A) (b n : ℕ) (f : ℕ → A) (m : List A) (v : A) → m ≡ run l b n f → v ≡ f n → set m (b + n) v ≡ run l b (n + 1) f
+  pub run-more : (l : List A) (b n : ℕ) (f : ℕ → A) (m : List A) (v : A) → m ≡ run l b n f → v ≡ f n
+      → set m (b + n) v ≡ run l b (n + 1) f
   unfolding run
   run-more l b n f m v e p = rw (add-one, e, p)
 
@@ -52,7 +55,8 @@ module _ {A : Type 0} where
   run-length l b zero f = refl
   run-length l b (suc n) f = length-set (run l b n f) (b + n) (f n) ∙ run-length l b n f
 
-  at-stored : (l : List A) (b n : ℕ) (f : ℕ → A) (i : ℕ) (d : A) → i < suc n → b + suc n ≤ length l → (i < n → getD (run l b n f) (b + i) d ≡ f i)
+  at-stored : (l : List A) (b n : ℕ) (f : ℕ → A) (i : ℕ) (d : A) → i < suc n → b + suc n ≤ length l
+      → (i < n → getD (run l b n f) (b + i) d ≡ f i)
       → Dec (i < n) → getD (set (run l b n f) (b + n) (f n)) (b + i) d ≡ f i
   at-stored l b n f i d h k r (yes m) =
       getD-set-other (run l b n f) (b + n) (b + i) (f n) d (λ e. absurd (omega arith)) ∙ r m
@@ -61,20 +65,23 @@ module _ {A : Type 0} where
       rw e (getD-set-same (run l b n f) (b + n) (f n) d (rw run-length (omega arith)))
 
   -- What a run stored, and what it left.
-  pub run-at : (l : List A) (b n : ℕ) (f : ℕ → A) (i : ℕ) (d : A) → i < n → b + n ≤ length l → getD (run l b n f) (b + i) d ≡ f i
+  pub run-at : (l : List A) (b n : ℕ) (f : ℕ → A) (i : ℕ) (d : A) → i < n → b + n ≤ length l
+      → getD (run l b n f) (b + i) d ≡ f i
   unfolding run
   run-at l b zero f i d h k = absurd (omega arith)
   run-at l b (suc n) f i d h k =
       at-stored l b n f i d h k (λ m. run-at l b n f i d m (omega arith)) (decLt i n)
 
-  pub run-other : (l : List A) (b n : ℕ) (f : ℕ → A) (i : ℕ) (d : A) → ((s : ℕ) → s < n → i ≢ b + s) → getD (run l b n f) i d ≡ getD l i d
+  pub run-other : (l : List A) (b n : ℕ) (f : ℕ → A) (i : ℕ) (d : A) → ((s : ℕ) → s < n → i ≢ b + s)
+      → getD (run l b n f) i d ≡ getD l i d
   unfolding run
   run-other l b zero f i d h = refl
   run-other l b (suc n) f i d h =
       getD-set-other (run l b n f) (b + n) i (f n) d (h n (lt-suc-self n)) ∙ run-other l b n f i d (λ s m. h s (omega arith))
 
   -- A run of n elements takes a filling from k to k + n.
-  pub fill-run : (m k n : ℕ) (f g : ℕ → A) (l : List A) → Filled m k f l → k + n ≤ m → ((s : ℕ) → s < n → g s ≡ f (k + s)) → Filled m (k + n) f (run l k n g)
+  pub fill-run : (m k n : ℕ) (f g : ℕ → A) (l : List A) → Filled m k f l → k + n ≤ m
+      → ((s : ℕ) → s < n → g s ≡ f (k + s)) → Filled m (k + n) f (run l k n g)
   unfolding run
   fill-run m k zero f g l i h e = rw add-zero i
   fill-run m k (suc n) f g l i h e =
@@ -107,14 +114,15 @@ module _ {A : Type 0} where
     pub filled : Filled n b f l
     pub rest : (j : ℕ) → b ≤ j → getD l j z ≡ z
 
+  -- A list of one element has it everywhere, also past its end.
+  pub replicate-at : (n j : ℕ) (z : A) → getD (replicate n z) j z ≡ z
+  replicate-at zero j z = refl
+  replicate-at (suc n) zero z = refl
+  replicate-at (suc n) (suc j) z = replicate-at n j z
+
   pub then-none : (n : ℕ) (f : ℕ → A) (z : A) → FilledThen n 0 f z (replicate n z)
   then-none n f z =
-      record { filled = fill-none n f (replicate n z) (length-replicate n z); rest = λ j h. all-z n j }
-    where
-      all-z : (m j : ℕ) → getD (replicate m z) j z ≡ z
-      all-z zero j = refl
-      all-z (suc m) zero = refl
-      all-z (suc m) (suc j) = all-z m j
+      record { filled = fill-none n f (replicate n z) (length-replicate n z); rest = λ j h. replicate-at n j z }
 
   pub then-run : (n b m : ℕ) (f g : ℕ → A) (z : A) (l next : List A) → FilledThen n b f z l → b + m ≤ n
       → ((s : ℕ) → s < m → g s ≡ f (b + s)) → next ≡ run l b m g → FilledThen n (b + m) f z next

@@ -49,5 +49,6 @@ abs-by {zs} h (⊝ a) = omega (arith, abs-by h a, abs-neg (eval zs a))
 pub fit : {zs : List ℤ} {bs : List ℕ} → Bounded zs bs → (e : Ex) → T (ltb (bound bs e) (2 ^ 63)) → SFits w64 (eval zs e)
 fit {zs} {bs} h e t = fits-abs (eval zs e) (lt-of-le-of-lt (abs-by h e) (ltb→lt (bound bs e) (2 ^ 63) t))
 
-pub abs-under : {zs : List ℤ} {bs : List ℕ} → Bounded zs bs → (e : Ex) (b : ℕ) → T (leb (bound bs e) b) → natAbs (eval zs e) ≤ b
+pub abs-under : {zs : List ℤ} {bs : List ℕ} → Bounded zs bs → (e : Ex) (b : ℕ) → T (leb (bound bs e) b)
+    → natAbs (eval zs e) ≤ b
 abs-under {zs} {bs} h e b t = omega (arith, abs-by h e, leb→le (bound bs e) b t)

@@ -22,7 +22,8 @@ module _ {A : Type 0} (w n : ℕ) (z : A) (f : ℕ → ℕ → A) where
   grid-beyond k some h = rw (row-beyond w n k some h)
 
   -- What holds of the elements of the first rows and of z holds at every place.
-  pub grid-each : (P : A → Type 0) → 0 < w → P z → ((c s : ℕ) → c < n → s < w → P (f c s)) → (k : ℕ) → P (gridAt w n z f k)
+  pub grid-each : (P : A → Type 0) → 0 < w → P z → ((c s : ℕ) → c < n → s < w → P (f c s)) → (k : ℕ)
+      → P (gridAt w n z f k)
   grid-each P some beyond inside k = at (decLt (k / w) n)
     where
       at : Dec (k / w < n) → P (gridAt w n z f k)
@@ -41,7 +42,8 @@ module _ {A : Type 0} (m w n : ℕ) (z : A) where
       getD-tab (m * w) (gridAt w n z f) (c * w + s) d (omega arith) ∙ grid-place w n z f c s h k
 
   -- Grids whose first rows are the same are the same.
-  pub grid-eq : (f g : ℕ → ℕ → A) → 0 < w → ((c s : ℕ) → c < n → s < w → f c s ≡ g c s) → grid m w n z f ≡ grid m w n z g
+  pub grid-eq : (f g : ℕ → ℕ → A) → 0 < w → ((c s : ℕ) → c < n → s < w → f c s ≡ g c s)
+      → grid m w n z f ≡ grid m w n z g
   unfolding grid
   grid-eq f g some e = tab-eq (m * w) (gridAt w n z f) (gridAt w n z g) (λ k h. at k (decLt (k / w) n))
     where

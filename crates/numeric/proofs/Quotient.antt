@@ -33,7 +33,8 @@ neg-pos-* : (n p : ℕ) → negℤ (pos n) *ℤ pos p ≡ negℤ (pos (n * p))
 neg-pos-* n p = neg-*ℤ (pos n) (pos p)
 
 -- A product's quotient by the dividend's quotient and remainder, so that the whole product need not fit.
-pub quot-split : (a : ℤ) (p d : ℕ) → 0 < d → quotZ a (pos d) *ℤ pos p +ℤ quotZ (remZ a (pos d) *ℤ pos p) (pos d) ≡ quotZ (a *ℤ pos p) (pos d)
+pub quot-split : (a : ℤ) (p d : ℕ) → 0 < d
+    → quotZ a (pos d) *ℤ pos p +ℤ quotZ (remZ a (pos d) *ℤ pos p) (pos d) ≡ quotZ (a *ℤ pos p) (pos d)
 quot-split (pos n) p d h = ap pos (split-nat n p d h)
 quot-split (negsuc n) p d h =
     ap₂ _+ℤ_ (neg-pos-* (suc n / d) p) (ap (λ (z : ℤ). quotZ z (pos d)) (neg-pos-* (suc n % d) p) ∙ quot-neg (suc n % d * p) d)

@@ -130,7 +130,8 @@ abbrev pub scale : ℤ → List ℕ → List Term → List Term
 scale c m [] = []
 scale c m (term d n ∷ p) = add (c *ℤ d) (joined m n) (scale c m p)
 
-scale-is : (env : List ℤ) (c : ℤ) (m : List ℕ) (p : List Term) → value env (scale c m p) ≡ c *ℤ mono env m *ℤ value env p
+scale-is : (env : List ℤ) (c : ℤ) (m : List ℕ) (p : List Term)
+    → value env (scale c m p) ≡ c *ℤ mono env m *ℤ value env p
 scale-is env c m [] = equal (c ∷ mono env m ∷ []) (# (pos 0)) (v 0 ⊗ v 1 ⊗ # (pos 0)) (omega arith)
 scale-is env c m (term d n ∷ p) =
     add-is env (c *ℤ d) (joined m n) (scale c m p)

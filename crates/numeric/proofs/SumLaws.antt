@@ -92,7 +92,8 @@ change-at n a f g h e r (no b) =
     (solve (sum n f ∷ g n ∷ f n ∷ []) (v 0 ⊕ v 1) (v 0 ⊕ v 2 ⊕ (v 1 ⊖ v 2)) tt)
 
 -- One summand changed: the sum changes by as much.
-pub sum-change : (n a : ℕ) (f g : ℕ → ℤ) → a < n → ((k : ℕ) → (k ≡ a → ⊥) → g k ≡ f k) → sum n g ≡ sum n f +ℤ (g a -ℤ f a)
+pub sum-change : (n a : ℕ) (f g : ℕ → ℤ) → a < n → ((k : ℕ) → (k ≡ a → ⊥) → g k ≡ f k)
+    → sum n g ≡ sum n f +ℤ (g a -ℤ f a)
 unfolding sum
 sum-change zero a f g h e = absurd (omega arith)
 sum-change (suc n) a f g h e = change-at n a f g h e (λ l. sum-change n a f g l e) (decLt a n)

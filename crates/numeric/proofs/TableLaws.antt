@@ -16,7 +16,8 @@ module _ {A : Type 0} where
   tab-length zero f = refl
   tab-length (suc n) f = rw (length-append, tab-length n f, add-one)
 
-  tab-at : (n : ℕ) (f : ℕ → A) (i : ℕ) (d : A) → i < suc n → (i < n → getD (tab n f) i d ≡ f i) → Dec (i < n) → getD (tab n f ++ (f n ∷ [])) i d ≡ f i
+  tab-at : (n : ℕ) (f : ℕ → A) (i : ℕ) (d : A) → i < suc n → (i < n → getD (tab n f) i d ≡ f i) → Dec (i < n)
+      → getD (tab n f ++ (f n ∷ [])) i d ≡ f i
   tab-at n f i d h r (yes l) = List·getD-append (tab n f) (f n ∷ []) d i (rw tab-length l) ∙ r l
   tab-at n f i d h r (no g) = let e : i ≡ n = omega arith in rw e (rw (tab-length n f) at (getD-append-seam (tab n f) (f n) [] d))
 
@@ -43,7 +44,8 @@ module _ {A : Type 0} where
   Each P i [] = Unit {0}
   Each P i (x ∷ xs) = P i x × Each P (suc i) xs
 
-  pub each-at : (P : ℕ → A → Type 0) (i : ℕ) (xs : List A) (k : ℕ) (d : A) → Each P i xs → k < length xs → P (i + k) (getD xs k d)
+  pub each-at : (P : ℕ → A → Type 0) (i : ℕ) (xs : List A) (k : ℕ) (d : A) → Each P i xs → k < length xs
+      → P (i + k) (getD xs k d)
   each-at P i [] k d h l = absurd (not-suc-le-zero l)
   each-at P i (x ∷ xs) zero d h l = rw add-zero (h .0)
   each-at P i (x ∷ xs) (suc k) d h l =
@@ -55,12 +57,14 @@ pub data AtMost {A : Type 0} (size : A → ℕ) (b : ℕ) : List A → Type 0 wh
   done : AtMost size b []
   _also_ : {x : A} {l : List A} → size x ≤ b → AtMost size b l → AtMost size b (x ∷ l)
 
-pub at-most-at : {A : Type 0} {size : A → ℕ} {b : ℕ} {l : List A} → AtMost size b l → (d : A) → size d ≤ b → (k : ℕ) → size (getD l k d) ≤ b
+pub at-most-at : {A : Type 0} {size : A → ℕ} {b : ℕ} {l : List A} → AtMost size b l → (d : A) → size d ≤ b → (k : ℕ)
+    → size (getD l k d) ≤ b
 at-most-at done d h k = h
 at-most-at (a also r) d h zero = a
 at-most-at (a also r) d h (suc k) = at-most-at r d h k
 
 -- A run of one element before a list.
-pub at-most-run : {A : Type 0} {size : A → ℕ} {b : ℕ} {l : List A} (n : ℕ) (x : A) → size x ≤ b → AtMost size b l → AtMost size b (replicate n x ++ l)
+pub at-most-run : {A : Type 0} {size : A → ℕ} {b : ℕ} {l : List A} (n : ℕ) (x : A) → size x ≤ b → AtMost size b l
+    → AtMost size b (replicate n x ++ l)
 at-most-run zero x h r = r
 at-most-run (suc n) x h r = h also at-most-run n x h r

@@ -43,7 +43,8 @@ grains-bound x c d w fits D C W =
     mul-le-mul (le-trans (floor-bound x c d fits D) most) W
 
 -- The answer of a frame, by the checks.
-pub saturation-refused : (f : Frame) (saturation : ℕ) → ltb mostSaturation saturation ≡ true → frameAnswer f saturation ≡ refusedFrame 6
+pub saturation-refused : (f : Frame) (saturation : ℕ) → ltb mostSaturation saturation ≡ true
+    → frameAnswer f saturation ≡ refusedFrame 6
 unfolding frameAnswer frameNumber firstHolding
 saturation-refused f saturation high = rw high refl
 

@@ -25,7 +25,8 @@ holds h = subst T (sym h) tt
 cross : (u w a b c d : ℕ) → u * b ≡ a * w → u * c * (b * d) ≡ a * c * (w * d)
 cross u w a b c d h = simp (mul-assoc, mul-left-comm) (simp (mul-assoc, mul-comm) at (ap (λ (z : ℕ). z * (c * d)) h))
 
-floor-value : (x : Float) (s : Bool) (a b c d : ℕ) → 0 < b → 0 < d → HasValue x s a b → scaledFloor x c d ≡ a * c / (b * d)
+floor-value : (x : Float) (s : Bool) (a b c d : ℕ) → 0 < b → 0 < d → HasValue x s a b
+    → scaledFloor x c d ≡ a * c / (b * d)
 unfolding scaledFloor
 floor-value nan s a b c d B D v = absurd v
 floor-value (inf t) s a b c d B D v = absurd v
@@ -83,7 +84,8 @@ unfolding readingFits
 no-end s true w = w
 no-end s false w = w
 
-by-field : (s : Bool) (f t c d : ℕ) → t < 8388608 → c ≤ mostSaturation → 0 < d → T (readingFits (ofFields binary32 s f t)) → Fields (ofFields binary32 s f t) f t c d
+by-field : (s : Bool) (f t c d : ℕ) → t < 8388608 → c ≤ mostSaturation → 0 < d
+    → T (readingFits (ofFields binary32 s f t)) → Fields (ofFields binary32 s f t) f t c d
 unfolding ofFields
 by-field s zero t c d H C D u = record {
   high = zero-le;
@@ -93,7 +95,8 @@ by-field s zero t c d H C D u = record {
 }
 by-field s (suc k) t c d H C D u = pick (eqb (suc k) 255) u
   where
-    pick : (b : Bool) → T (readingFits (cond b (cond (eqb t 0) (inf s) nan) (odd 24 s (8388608 + t) k 149))) → Fields (cond b (cond (eqb t 0) (inf s) nan) (odd 24 s (8388608 + t) k 149)) (suc k) t c d
+    pick : (b : Bool) → T (readingFits (cond b (cond (eqb t 0) (inf s) nan) (odd 24 s (8388608 + t) k 149)))
+        → Fields (cond b (cond (eqb t 0) (inf s) nan) (odd 24 s (8388608 + t) k 149)) (suc k) t c d
     pick true w = absurd (no-end s (eqb t 0) w)
     pick false w =
         let v = odd-sign 24 s (8388608 + t) k 149 in
@@ -137,7 +140,8 @@ zero-le-any : (n : ℕ) → (ltb 0 n || (eqb 0 n && true)) ≡ true
 zero-le-any zero = refl
 zero-le-any (suc n) = rw (lt-ltb 0 (suc n) (omega arith))
 
-minus-zero : (m u d : ℕ) → 0 < u → 0 < d → ((eqb 0 (m * u) && true) && ltb 0 (m * u + 256 * d)) ≡ (eqb m 0 && ltb (m * u) (256 * d))
+minus-zero : (m u d : ℕ) → 0 < u → 0 < d
+    → ((eqb 0 (m * u) && true) && ltb 0 (m * u + 256 * d)) ≡ (eqb m 0 && ltb (m * u) (256 * d))
 minus-zero zero u d U D = rw (zero-mul u, zero-add) (rw (lt-ltb 0 (256 * d) (omega arith)))
 minus-zero (suc m) u d U D = rw (ne-eqb 0 (suc m * u) (λ h. lt-irrefl 0 (rw h (mul-pos (zero-lt-suc m) U))), eqb·suc-zero m)
 

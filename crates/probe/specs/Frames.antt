@@ -63,7 +63,11 @@ frameAmounts f saturation = record {
 
 -- A refusal: the number, zeros, and no amount of O2.
 abbrev pub refusedFrame : ℕ → Amounts
-refusedFrame number = record { number = number; ammonium = pos 0; nitrite = pos 0; nitrate = pos 0; phosphate = pos 0; oxygen = NoAmount }
+refusedFrame number =
+    let z = pos 0 in
+    record { number = number; ammonium = z; nitrite = z; nitrate = z; phosphate = z; oxygen = NoAmount }
 
 unfoldable pub frameAnswer : Frame → ℕ → Amounts
-frameAnswer f saturation = let n = frameNumber f saturation in cond (eqb n 0) (frameAmounts f saturation) (refusedFrame n)
+frameAnswer f saturation =
+    let n = frameNumber f saturation in
+    cond (eqb n 0) (frameAmounts f saturation) (refusedFrame n)

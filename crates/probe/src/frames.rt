@@ -32,7 +32,8 @@ const PHOSPHORUS: u64 = Set::GRAINS_PER_MICROGRAM_P as u64;
 
 // Grains of a reading: its exact value times numerator / denominator, rounded down to µg; weight: grains in one µg.
 fn grains(x: f32, numerator: u64, denominator: u64, weight: u64) -> i64
-    requires { ⌜ (readingFits x ≡ true) × (numerator ≤ mostSaturation) × (1 ≤ denominator) × (weight ≤ grainsPerMicrogramN) ⌝ }
+    requires reading { ⌜ (readingFits x ≡ true) × (numerator ≤ mostSaturation) × (1 ≤ denominator) ⌝ }
+    requires weight { ⌜ weight ≤ grainsPerMicrogramN ⌝ }
     ensures { λ r. ⌜ r ≡ pos (scaledFloor x numerator denominator * weight) ⌝ }
 {
     (scaled_floor(x, numerator, denominator) * weight) as i64

@@ -1,14 +1,14 @@
 -- Laws of the lines of a record: lengths, the bytes before a value, the value on a line. No assumptions.
-use Prim.Native.Nat.{ℕ, _+_, _-_, _*_, _/_, _%_, _≤_, _<_}
-use mathlib.Core.List.{List, [], _∷_}
-use mathlib.Core.Path.{_≡_, refl}
+use Prim.Native.Nat.{ℕ, _+_, _-_, _*_, _≤_, _<_}
+use mathlib.Core.List.{List}
+use mathlib.Core.Path.{_≡_}
 use borrow.Author.Tests.{lt-ltb, le-ltb}
 use lib.IntN.{ℤ, pos}
 use lib.ListN.{length, length-append}
 use Rattle.stoichiometry.specs.Substances.{substances}
 use Rattle.river.specs.declared.River.{River}
-use Rattle.river.specs.Rivers.{amountAt, carryAt}
-use Rattle.text.specs.Decimals.{glyph, columns, plain}
+use Rattle.stoichiometry.specs.Totals.{amountAt}
+use Rattle.river.specs.Rivers.{carryAt}
 use Rattle.text.proofs.BlockLaws.{blocks-length}
 use Rattle.text.proofs.DecimalLaws.{plain-length, decimal-length}
 use Rattle.record.specs.Lines.{lines, lineBytes, cellBytes, front, line, cellText, recordText, valueOf, recordOf}
@@ -33,12 +33,6 @@ cell-length count v c =
 pub record-length : (cells count : ℕ) (v : ℕ → ℕ → ℤ) → length (recordText cells count v) ≡ cells * (count * lineBytes)
 unfolding recordText
 record-length cells count v = blocks-length (count * lineBytes) cells (cellText count v) (cell-length count v)
-
--- The six bytes before a value.
-pub front-bytes : (cell k : ℕ)
-    → front cell k ≡ glyph (cell / 10) 32 ∷ (48 + cell % 10) ∷ 32 ∷ glyph (k / 10) 32 ∷ (48 + k % 10) ∷ 32 ∷ []
-unfolding front plain columns
-front-bytes cell k = refl
 
 -- The value on line k of cell c.
 module _ (amounts : List ℤ) (carries : List ℕ) (c k : ℕ) where

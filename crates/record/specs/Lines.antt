@@ -8,7 +8,8 @@ use lib.IntN.{ℤ, pos}
 use Rattle.stoichiometry.specs.Substances.{substances}
 use Rattle.stoichiometry.specs.Rows.{processes}
 use Rattle.river.specs.declared.River.{River}
-use Rattle.river.specs.Rivers.{amountAt, carryAt}
+use Rattle.stoichiometry.specs.Totals.{amountAt}
+use Rattle.river.specs.Rivers.{carryAt}
 use Rattle.text.specs.Blocks.{blocks}
 use Rattle.text.specs.Decimals.{plain, decimal}
 

@@ -4,7 +4,7 @@ ghost use lib.ListN.{length};
 ghost use Rattle.record.specs.Writing.{writeNumber, outputAfter, workAfter};
 use crate::writing::write_cells;
 use river::River;
-use river::river_right;
+use river::river_fits;
 use stoichiometry::PROCESSES;
 use stoichiometry::SUBSTANCES;
 use stoichiometry::refusal;
@@ -38,7 +38,7 @@ pub fn write_record(river: River, output: &mut [u8], work: &mut [u8]) -> u32
     ensures output { λ r. ⌜ now (output .exit) ≡ outputAfter r river (now (output .entry)) ⌝ }
     ensures work { λ r. ⌜ now (work .exit) ≡ workAfter r river (now (work .entry)) ⌝ }
 {
-    if !river_right(river.cells, &river.amounts, &river.carries) {
+    if !river_fits(river.cells, &river.amounts, &river.carries) {
         return refusal::RIVER;
     }
     let n = river.cells as usize;

@@ -1,5 +1,5 @@
--- Laws by subject: one line; the text of any cells and lines; what the reading loops find; a river's record, written and
--- read back; which texts are records; worked cases.
+-- Laws by subject: one line; the text of any cells and lines; what the reading loops find; a river's record, written
+-- and read back; which texts are records; worked cases.
 pub mod LineReading
 pub mod TextLaws
 pub mod ReadCells

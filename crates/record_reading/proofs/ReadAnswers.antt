@@ -2,50 +2,43 @@
 -- No assumptions.
 use mathlib.Core.Path.{_≡_, refl, sym, ap, _∙_}
 use mathlib.Core.Bool.{Bool, true, false, not, _&&_}
-use mathlib.Core.List.{List, [], _∷_}
-use Prim.Native.Nat.{ℕ, _+_, _-_, _*_, _≤_, _<_}
+use mathlib.Core.List.{List, []}
+use Prim.Native.Nat.{ℕ, _+_, _-_, _*_, _≤_}
 use native.Mathlib.Omega.{arith}
-use borrow.Author.Tests.{le-leb, lt-leb, ne-eqb, eqb-true, not-false}
-use lib.Dec.{leb, eqb, lit<}
+use borrow.Author.Tests.{ne-eqb, eqb-true, not-true}
+use lib.Dec.{eqb}
 use lib.ListN.{length}
-use Rattle.numeric.specs.Check.{firstHolding, _when_}
-use Rattle.numeric.proofs.CheckLaws.{and-left, and-right, leb-within, first-fails, first-zero}
+use Rattle.numeric.specs.Check.{inRange, firstHolding}
+use Rattle.numeric.proofs.CheckLaws.{and-left, and-right, leb-within}
 use Rattle.river.specs.declared.Changed.{Changed}
 use Rattle.river.specs.Rivers.{mostCells, cellsFit, riverWrong, zeroRiver}
 use Rattle.text.specs.Blocks.{part}
 use Rattle.record.specs.Lines.{cellBytes}
-use Rattle.record_reading.specs.Reading.{cellsIn, linesRight, riverIn, isRecord, readAnswer, cellNumber, cellLines}
+use Rattle.record_reading.specs.Reading.{cellsIn, linesRight, riverIn, isRecord}
+use Rattle.record_reading.specs.Reading.{readAnswer, cellNumber, cellLines}
 
 module _ (t : List ℕ) where
-  -- The test of the size.
+  -- The test of the size, and the size of a text that passes.
   abbrev pub sizeRight : Bool
   sizeRight = cellsFit (cellsIn t) && eqb (cellsIn t * cellBytes) (length t)
 
-  -- A text of another size, with a line that is none, or of a river of which check 4 holds, is no record; any other
-  -- is one.
-  pub size-refused : sizeRight ≡ false → isRecord t ≡ false
-  unfolding isRecord
-  size-refused e = rw e refl
-
-  pub lines-refused : sizeRight ≡ true → linesRight (cellsIn t) t ≡ false → isRecord t ≡ false
-  unfolding isRecord
-  lines-refused e wrong = rw (e, wrong) refl
-
-  pub river-refused : sizeRight ≡ true → linesRight (cellsIn t) t ≡ true → riverWrong (riverIn t) ≡ true → isRecord t ≡ false
-  unfolding isRecord
-  river-refused e right wrong = rw (e, right, wrong) refl
-
-  pub record-right : sizeRight ≡ true → linesRight (cellsIn t) t ≡ true → riverWrong (riverIn t) ≡ false → isRecord t ≡ true
-  unfolding isRecord
-  record-right e right bounds = rw (e, right, bounds) refl
-
-  -- The size of a text that passes.
   pub size-known : sizeRight ≡ true → (cellsIn t ≤ mostCells) × (cellsIn t * cellBytes ≡ length t)
   unfolding cellsFit
   size-known e =
-      let cells = and-left (leb 1 (cellsIn t) && leb (cellsIn t) mostCells) (eqb (cellsIn t * cellBytes) (length t)) e in
-      let bytes = and-right (leb 1 (cellsIn t) && leb (cellsIn t) mostCells) (eqb (cellsIn t * cellBytes) (length t)) e in
-      (leb-within 1 (cellsIn t) mostCells cells .1, eqb-true (cellsIn t * cellBytes) (length t) bytes)
+      let cells = cellsFit (cellsIn t) in
+      let bytes = eqb (cellsIn t * cellBytes) (length t) in
+      (leb-within 1 (cellsIn t) mostCells (and-left cells bytes e) .1, eqb-true _ _ (and-right cells bytes e))
+
+  -- What is known of a record.
+  pub record-parts : isRecord t ≡ true
+      → (sizeRight ≡ true) × (linesRight (cellsIn t) t ≡ true) × (riverWrong (riverIn t) ≡ false)
+  unfolding isRecord
+  record-parts e =
+      let lines = linesRight (cellsIn t) t in
+      let bounds = not (riverWrong (riverIn t)) in
+      let both = and-left (sizeRight && lines) bounds e in
+      let right = not-true _ (and-right (sizeRight && lines) bounds e) in
+      (and-left sizeRight lines both, and-right sizeRight lines both, right)
 
   -- A record is answered with its river, every other text with 11.
   pub answer-accepted : isRecord t ≡ true → readAnswer t ≡ record { number = 0; river = riverIn t }
@@ -57,21 +50,18 @@ module _ (t : List ℕ) where
   read-refused e = rw e refl
 
   -- What the number says.
+  number-says : (b : Bool) → isRecord t ≡ b
+      → (readAnswer t .number ≡ 0 → isRecord t ≡ true) × ((readAnswer t .number ≡ 0 → ⊥) → isRecord t ≡ false)
+  number-says true e = (λ z. e, λ h. absurd (h (ap (λ (a : Changed). a .number) (answer-accepted e))))
+  number-says false e =
+      let eleven : readAnswer t .number ≡ 11 = ap (λ (a : Changed). a .number) (read-refused e) in
+      (λ z. absurd (omega arith), λ h. e)
+
   pub read-record : readAnswer t .number ≡ 0 → isRecord t ≡ true
-  read-record z = go (isRecord t) refl
-    where
-      go : (b : Bool) → isRecord t ≡ b → isRecord t ≡ true
-      go true e = e
-      go false e =
-          let eleven : _≡_ {A = ℕ} 11 0 = sym (ap (λ (a : Changed). a .number) (read-refused e)) ∙ z in
-          absurd (omega arith)
+  read-record = number-says (isRecord t) refl .0
 
   pub number-refused : (readAnswer t .number ≡ 0 → ⊥) → isRecord t ≡ false
-  number-refused h = go (isRecord t) refl
-    where
-      go : (b : Bool) → isRecord t ≡ b → isRecord t ≡ false
-      go false e = e
-      go true e = absurd (h (ap (λ (a : Changed). a .number) (answer-accepted e)))
+  number-refused = number-says (isRecord t) refl .1
 
   module _ (cell : ℕ) where
     -- 11 before 5, then the cell.
@@ -79,17 +69,13 @@ module _ (t : List ℕ) where
     unfolding cellNumber firstHolding
     text-refused e = rw e refl
 
-    pub cell-before : isRecord t ≡ true → cell < 1 → cellNumber t cell ≡ 5
+    pub cell-refused : isRecord t ≡ true → inRange 1 (cellsIn t) cell ≡ false → cellNumber t cell ≡ 5
     unfolding cellNumber firstHolding
-    cell-before e h = rw (e, lt-leb 1 cell h) refl
+    cell-refused e out = rw (e, out) refl
 
-    pub cell-beyond : isRecord t ≡ true → 1 ≤ cell → cellsIn t < cell → cellNumber t cell ≡ 5
+    pub cell-exists : isRecord t ≡ true → inRange 1 (cellsIn t) cell ≡ true → cellNumber t cell ≡ 0
     unfolding cellNumber firstHolding
-    cell-beyond e h l = rw (e, le-leb 1 cell h, lt-leb cell (cellsIn t) l) refl
-
-    pub cell-exists : isRecord t ≡ true → 1 ≤ cell → cell ≤ cellsIn t → cellNumber t cell ≡ 0
-    unfolding cellNumber firstHolding
-    cell-exists e h l = rw (e, le-leb 1 cell h, le-leb cell (cellsIn t) l) refl
+    cell-exists e within = rw (e, within) refl
 
     -- The lines, and where they stand.
     pub lines-accepted : cellNumber t cell ≡ 0 → cellLines t cell ≡ part ((cell - 1) * cellBytes) cellBytes t
@@ -101,12 +87,12 @@ module _ (t : List ℕ) where
     lines-none h = rw (ne-eqb (cellNumber t cell) 0 h) refl
 
     pub cell-within : cellNumber t cell ≡ 0 → (1 ≤ cell) × ((cell - 1) * cellBytes + cellBytes ≤ length t)
-    unfolding cellNumber isRecord
-    cell-within e =
-        let five = 5 when not (leb 1 cell && leb cell (cellsIn t)) ∷ [] in
-        let record′ = not-false (isRecord t) (first-zero 11 (not (isRecord t)) five (lit< tt) e) in
-        let rest = sym (first-fails 11 (not (isRecord t)) five (first-zero 11 (not (isRecord t)) five (lit< tt) e)) ∙ e in
-        let cells = leb-within 1 cell (cellsIn t) (not-false _ (first-zero 5 (not (leb 1 cell && leb cell (cellsIn t))) [] (lit< tt) rest)) in
-        let size = size-known (and-left sizeRight (linesRight (cellsIn t) t) (and-left (sizeRight && linesRight (cellsIn t) t) (not (riverWrong (riverIn t))) record′)) in
-        let whole = size .1 in
-        (cells .0, omega (arith, cells .1, whole))
+    cell-within z = go (isRecord t) (inRange 1 (cellsIn t) cell) refl refl
+      where
+        go : (a b : Bool) → isRecord t ≡ a → inRange 1 (cellsIn t) cell ≡ b
+            → (1 ≤ cell) × ((cell - 1) * cellBytes + cellBytes ≤ length t)
+        go true true e f =
+            let cells = leb-within 1 cell (cellsIn t) f in
+            (cells .0, omega (arith, cells, size-known (record-parts e .0)))
+        go true false e f = let five : _≡_ {A = ℕ} 5 0 = sym (cell-refused e f) ∙ z in absurd (omega arith)
+        go false b e f = let eleven : _≡_ {A = ℕ} 11 0 = sym (text-refused e) ∙ z in absurd (omega arith)

@@ -3,9 +3,9 @@
 use Prim.Native.Nat.{ℕ, suc, _+_, _*_, _/_, _%_, _≤_, _<_}
 use mathlib.Core.List.{List}
 use mathlib.Core.Path.{_≡_, sym, ap, ap₂, _∙_}
-use native.Mathlib.Nat.{suc-mul, add-zero, mul-assoc, mul-le-mul-right, mul-add-div-right, mul-add-mod-self-right}
-use native.Mathlib.Nat.{div-eq-of-lt, mod-eq-of-lt, div-lt-iff-lt-mul, div-add-mod', mod-lt}
+use native.Mathlib.Nat.{suc-mul, mul-assoc, mul-le-mul-right, div-lt-iff-lt-mul, div-add-mod', mod-lt}
 use native.Mathlib.Omega.{arith}
+use lib.Arith.{digits-div, digits-mod}
 use lib.IntN.{ℤ}
 use lib.ListN.{length}
 use lib.Seq.{take-all}
@@ -20,25 +20,21 @@ module _ (n count : ℕ) (v : ℕ → ℕ → ℤ) where
   lineOf : ℕ → List ℕ
   lineOf j = line (j / count + 1) (j % count + 1) (v (j / count) (j % count))
 
-  flat : 0 < count → recordText n count v ≡ blocks (n * count) lineOf
+  flat : recordText n count v ≡ blocks (n * count) lineOf
   unfolding recordText cellText lineOf
-  flat h = blocks-flat count n (λ c k. line (c + 1) (k + 1) (v c k)) h
+  flat = blocks-flat count n (λ c k. line (c + 1) (k + 1) (v c k))
 
   -- Line k of cell c of the text.
   pub text-line : (c k : ℕ) → c < n → k < count
       → part ((c * count + k) * lineBytes) lineBytes (recordText n count v) ≡ line (c + 1) (k + 1) (v c k)
   unfolding lineOf
   text-line c k h l =
-      let some : 0 < count = omega arith in
       let row : suc c * count ≤ n * count = mul-le-mul-right count h in
       let next : suc c * count ≡ c * count + count = suc-mul c count in
-      let cell : (c * count + k) / count ≡ c =
-      mul-add-div-right some c k ∙ ap (λ (q : ℕ). c + q) (div-eq-of-lt l) ∙ add-zero c in
-      let place : (c * count + k) % count ≡ k = mul-add-mod-self-right c count k ∙ mod-eq-of-lt l in
-      ap (part ((c * count + k) * lineBytes) lineBytes) (flat some)
+      ap (part ((c * count + k) * lineBytes) lineBytes) flat
       ∙ part-blocks lineBytes lineOf (λ j. line-length (j / count + 1) (j % count + 1) (v (j / count) (j % count)))
       (n * count) (c * count + k) (omega arith)
-      ∙ ap₂ (λ (d j : ℕ). line (d + 1) (j + 1) (v d j)) cell place
+      ∙ ap₂ (λ (d j : ℕ). line (d + 1) (j + 1) (v d j)) (digits-div c l) (digits-mod c l)
 
   -- The lines of cell c of the text.
   pub text-cell : (c : ℕ) → c < n
@@ -58,4 +54,4 @@ module _ (n count : ℕ) (v : ℕ → ℕ → ℤ) where
       (λ j l.
       ap (λ (i : ℕ). part (i * lineBytes) lineBytes t) (sym (div-add-mod' j count))
       ∙ h (j / count) (j % count) (div-lt-iff-lt-mul some .1 l) (mod-lt j some))
-      ∙ sym (flat some)
+      ∙ sym flat

@@ -14,7 +14,7 @@ use Rattle.stoichiometry.specs.Rows.{processes}
 use Rattle.river.specs.declared.Changed.{Changed}
 use Rattle.river.specs.declared.River.{River}
 use Rattle.river.specs.Rivers.{mostCells, cellsFit, riverWrong, zeroRiver, mostCarry}
-use Rattle.text_reading.specs.declared.Number.{Number}
+use Rattle.text_reading.specs.declared.Decimal.{Decimal}
 use Rattle.text.specs.Blocks.{part}
 use Rattle.text_reading.specs.Reading.{parse, none}
 use Rattle.record.specs.Lines.{lines, lineBytes, cellBytes, line}
@@ -26,9 +26,9 @@ sameBytes [] (y ∷ ys) = false
 sameBytes (x ∷ xs) [] = false
 sameBytes (x ∷ xs) (y ∷ ys) = eqb x y && sameBytes xs ys
 
--- The number of a line, if the line is, byte for byte, that of a number from `lowest` to `highest`.
-unfoldable pub lineNumber : List ℕ → ℕ → ℕ → ℤ → ℤ → Number
-lineNumber l cell k lowest highest =
+-- The value of a line, if the line is, byte for byte, that of a value from `lowest` to `highest`.
+unfoldable pub lineValue : List ℕ → ℕ → ℕ → ℤ → ℤ → Decimal
+lineValue l cell k lowest highest =
     let n = parse lowest highest (part 6 20 l) in cond (n .ok && sameBytes l (line cell k (n .value))) n none
 
 -- The limits of the value on line k, counted from 0: any amount, or a carry. The bounds of each amount are those of
@@ -40,22 +40,23 @@ unfoldable pub highestOn : ℕ → ℤ
 highestOn k = cond (ltb k substances) (pos mostNet) (pos mostCarry)
 
 -- The value on line k of cell c of a text, both from 0.
-unfoldable pub valueAt : List ℕ → ℕ → ℕ → Number
+unfoldable pub valueAt : List ℕ → ℕ → ℕ → Decimal
 valueAt t c k =
-    lineNumber (part ((c * lines + k) * lineBytes) lineBytes t) (c + 1) (k + 1) (lowestOn k) (highestOn k)
+    lineValue (part ((c * lines + k) * lineBytes) lineBytes t) (c + 1) (k + 1) (lowestOn k) (highestOn k)
 
--- Every line of n cells has its value.
+-- Every line of cell c has its value, and every line of n cells.
+abbrev pub cellRight : List ℕ → ℕ → Bool
+cellRight t c = every lines (λ k. valueAt t c k .ok)
+
 unfoldable pub linesRight : ℕ → List ℕ → Bool
-linesRight n t = every n (λ c. every lines (λ k. valueAt t c k .ok))
+linesRight n t = every n (cellRight t)
 
 -- The amounts and carries that a text of n cells has, zeros beyond the last cell.
 unfoldable pub amountsIn : ℕ → List ℕ → List ℤ
-amountsIn n t =
-    grid mostCells substances n (pos 0) (λ c k. valueAt t c k .value)
+amountsIn n t = grid mostCells substances n (pos 0) (λ c k. valueAt t c k .value)
 
 unfoldable pub carriesIn : ℕ → List ℕ → List ℕ
-carriesIn n t =
-    grid mostCells processes n 0 (λ c p. natAbs (valueAt t c (substances + p) .value))
+carriesIn n t = grid mostCells processes n 0 (λ c p. natAbs (valueAt t c (substances + p) .value))
 
 -- The cells of a text, and its river.
 abbrev pub cellsIn : List ℕ → ℕ
@@ -67,7 +68,8 @@ riverIn t = record { cells = cellsIn t; amounts = amountsIn (cellsIn t) t; carri
 -- A text is exactly a record of 1 to 8 cells with values in bounds.
 unfoldable pub isRecord : List ℕ → Bool
 isRecord t =
-    cellsFit (cellsIn t) && eqb (cellsIn t * cellBytes) (length t) && linesRight (cellsIn t) t && not (riverWrong (riverIn t))
+    cellsFit (cellsIn t) && eqb (cellsIn t * cellBytes) (length t)
+    && linesRight (cellsIn t) t && not (riverWrong (riverIn t))
 
 -- The river of a record; 11 and a river of 0 cells for every other text.
 unfoldable pub readAnswer : List ℕ → Changed

@@ -4,12 +4,13 @@ ghost use Rattle.record_reading.specs.Reading.{readAnswer, cellNumber, c
 use crate::reading::no_record;
 use crate::reading::read_cells;
 use crate::reading::size_fits;
+use numeric::in_range;
 use record::Record;
 use river::AMOUNTS;
 use river::CARRIES;
 use river::Changed;
 use river::River;
-use river::river_right;
+use river::river_fits;
 use stoichiometry::refusal;
 
 mod reading;
@@ -26,7 +27,7 @@ pub fn read_record(text: &[u8]) -> Changed
     let mut carries = [0; CARRIES];
     if read_cells(text, n, &mut amounts, &mut carries) {
         let cells = n as u32;
-        if !river_right(cells, &amounts, &carries) {
+        if !river_fits(cells, &amounts, &carries) {
             return no_record();
         }
         let river = River {
@@ -50,10 +51,7 @@ pub fn number_of_cell(text: &[u8], cell: u32) -> u32
     if read.number != refusal::NONE {
         return refusal::TEXT;
     }
-    if cell < 1 {
-        return refusal::PLACE;
-    }
-    if text.len() / Record::CELL_BYTES < cell as usize {
+    if !in_range(1, read.river.cells, cell) {
         return refusal::PLACE;
     }
     refusal::NONE

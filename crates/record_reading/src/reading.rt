@@ -1,20 +1,19 @@
 // Lines read strictly from a text, cell by cell.
 ghost use mathlib.Core.Path.{_≡_};
 ghost use mathlib.Core.Bool.{true, _&&_};
-ghost use Prim.Native.Nat.{_+_, _*_, _/_, _%_, _≤_, _<_};
+ghost use Prim.Native.Nat.{_+_, _*_, _/_, _≤_, _<_};
 ghost use lib.Dec.{eqb};
 ghost use lib.ListN.{length, replicate};
-ghost use lib.IntN.{pos, natAbs};
-ghost use Rattle.numeric.specs.Check.{every};
-ghost use Rattle.numeric.specs.Table.{run};
+ghost use lib.IntN.{pos};
 ghost use Rattle.stoichiometry.specs.Rows.{processes};
 ghost use Rattle.stoichiometry.specs.Substances.{substances};
 ghost use Rattle.river.specs.Rivers.{cellsFit, zeroRiver, mostCells};
 ghost use Rattle.text.specs.Blocks.{part};
-ghost use Rattle.text.specs.Decimals.{glyph};
 ghost use Rattle.text_reading.specs.Reading.{none};
-ghost use Rattle.record.specs.Lines.{front, lines, lineBytes, cellBytes};
-ghost use Rattle.record_reading.specs.Reading.{sameBytes, lineNumber, lowestOn, highestOn, valueAt, linesRight, amountsIn, carriesIn};
+ghost use Rattle.record.specs.Lines.{front, lineBytes, cellBytes};
+ghost use Rattle.record_reading.specs.Reading.{sameBytes, lineValue, lowestOn, highestOn};
+ghost use Rattle.record_reading.specs.Reading.{cellRight, linesRight, amountsIn, carriesIn};
+ghost use Rattle.record_reading.specs.Inner.Stages.{amountsStored, carriesStored};
 use numeric::both;
 use record::Record;
 use river::AMOUNTS;
@@ -24,67 +23,53 @@ use river::River;
 use stoichiometry::PROCESSES;
 use stoichiometry::SUBSTANCES;
 use stoichiometry::refusal;
-use text_reading::Number;
-use text_reading::number_of;
+use text::two_columns;
+use text_reading::Decimal;
+use text_reading::read_decimal;
 
-// The tens of a number in two columns, a blank for none; and its ones.
-fn tens(n: u32) -> u8
-    ensures { λ r. ⌜ r ≡ glyph (n / 10) 32 ⌝ }
-{
-    if n < 10 {
-        b' '
-    } else {
-        b'0' + (n / 10 % 10) as u8
-    }
-}
-
-fn ones(n: u32) -> u8
-    ensures { λ r. ⌜ r ≡ 48 + n % 10 ⌝ }
-{
-    b'0' + (n % 10) as u8
-}
-
-// What stands before the value of the line from `at` on is its cell and its number.
-fn front_right(text: &[u8], at: usize, cell: u32, number: u32) -> bool
+// What stands before the value of the line from `at` on is its cell and its place.
+fn front_right(text: &[u8], at: usize, cell: u32, line: u32) -> bool
     requires { ⌜ at + 6 ≤ length (now text) ⌝ }
-    ensures { λ r. ⌜ r ≡ sameBytes (part at 6 (now (text .entry))) (front cell number) ⌝ }
+    ensures { λ r. ⌜ r ≡ sameBytes (part at 6 (now (text .entry))) (front cell line) ⌝ }
 {
-    let number_right = both(
-        text[at + 3] == tens(number),
-        both(text[at + 4] == ones(number), text[at + 5] == b' '),
+    let cell_columns = two_columns(cell);
+    let line_columns = two_columns(line);
+    let line_right = both(
+        text[at + 3] == line_columns[0],
+        both(text[at + 4] == line_columns[1], text[at + 5] == b' '),
     );
     both(
-        text[at] == tens(cell),
+        text[at] == cell_columns[0],
         both(
-            text[at + 1] == ones(cell),
-            both(text[at + 2] == b' ', number_right),
+            text[at + 1] == cell_columns[1],
+            both(text[at + 2] == b' ', line_right),
         ),
     )
 }
 
-fn no_number() -> Number
+fn no_value() -> Decimal
     ensures { λ r. ⌜ r ≡ none ⌝ }
 {
-    Number {
+    Decimal {
         ok: false,
         value: 0,
     }
 }
 
-// The number of the line from `at` on, if there is one from `lowest` to `highest`.
-fn line_number(text: &[u8], at: usize, cell: u32, number: u32, lowest: i64, highest: i64) -> Number
+// The value of the line from `at` on, if there is one from `lowest` to `highest`.
+fn line_value(text: &[u8], at: usize, cell: u32, line: u32, lowest: i64, highest: i64) -> Decimal
     requires { ⌜ at + lineBytes ≤ length (now text) ⌝ }
-    ensures { λ r. ⌜ r ≡ lineNumber (part at lineBytes (now (text .entry))) cell number lowest highest ⌝ }
+    ensures { λ r. ⌜ r ≡ lineValue (part at lineBytes (now (text .entry))) cell line lowest highest ⌝ }
 {
     if text[at + Record::LINE_FEED] != b'\n' {
-        return no_number();
+        return no_value();
     }
-    if front_right(text, at, cell, number) {
+    if front_right(text, at, cell, line) {
         let start = at + Record::VALUE_START;
         let end = at + Record::LINE_FEED;
-        return number_of(&text[start..end], lowest, highest);
+        return read_decimal(&text[start..end], lowest, highest);
     }
-    no_number()
+    no_value()
 }
 
 // The limits of the value on line k, counted from 0: any amount, or a carry.
@@ -113,9 +98,9 @@ fn read_cell(
     carries: &mut [u32; CARRIES],
 ) -> bool
     requires { ⌜ (c < mostCells) × (c * cellBytes + cellBytes ≤ length (now text)) ⌝ }
-    ensures { λ r. ⌜ r ≡ every lines (λ k. valueAt (now (text .entry)) c k .ok) ⌝ }
-    ensures { λ r. ⌜ (r ≡ true → now (amounts .exit) ≡ run (now (amounts .entry)) (c * substances) substances (λ k. valueAt (now (text .entry)) c k .value)) ⌝ }
-    ensures { λ r. ⌜ (r ≡ true → now (carries .exit) ≡ run (now (carries .entry)) (c * processes) processes (λ p. natAbs (valueAt (now (text .entry)) c (substances + p) .value))) ⌝ }
+    ensures { λ r. ⌜ r ≡ cellRight (now (text .entry)) c ⌝ }
+    ensures { λ r. ⌜ (r ≡ true → now (amounts .exit) ≡ amountsStored (now (text .entry)) c (now (amounts .entry))) ⌝ }
+    ensures { λ r. ⌜ (r ≡ true → now (carries .exit) ≡ carriesStored (now (text .entry)) c (now (carries .entry))) ⌝ }
 {
     let start = c * Record::CELL_BYTES;
     let amount = c * SUBSTANCES;
@@ -123,7 +108,7 @@ fn read_cell(
     let cell = (c + 1) as u32;
     let mut k = 0;
     while k < Record::LINES {
-        let number = line_number(
+        let read = line_value(
             text,
             start + k * Record::LINE_BYTES,
             cell,
@@ -131,10 +116,10 @@ fn read_cell(
             lowest_on(k),
             highest_on(k),
         );
-        if !number.ok {
+        if !read.ok {
             return false;
         }
-        let value = number.value;
+        let value = read.value;
         if k < SUBSTANCES {
             amounts[amount + k] = value;
         } else {
@@ -153,7 +138,8 @@ pub(crate) fn read_cells(
     carries: &mut [u32; CARRIES],
 ) -> bool
     requires { ⌜ (n ≤ mostCells) × (n * cellBytes ≤ length (now text)) ⌝ }
-    requires { ⌜ (now amounts ≡ replicate (mostCells * substances) (pos 0)) × (now carries ≡ replicate (mostCells * processes) 0) ⌝ }
+    requires { ⌜ now amounts ≡ replicate (mostCells * substances) (pos 0) ⌝ }
+    requires { ⌜ now carries ≡ replicate (mostCells * processes) 0 ⌝ }
     ensures { λ r. ⌜ r ≡ linesRight n (now (text .entry)) ⌝ }
     ensures { λ r. ⌜ (r ≡ true → now (amounts .exit) ≡ amountsIn n (now (text .entry))) ⌝ }
     ensures { λ r. ⌜ (r ≡ true → now (carries .exit) ≡ carriesIn n (now (text .entry))) ⌝ }

@@ -30,7 +30,7 @@ use Rattle.kinetics.specs.Factors.{share, times}
 use Rattle.kinetics.specs.Rates.{takesPhosphate, takesNitrogen, ratesOf, rateAt, productAt, quotaAt, extentAt}
 use Rattle.river.specs.declared.River.{River}
 use Rattle.river.specs.Rivers.{mostCells, lowestAt, highestAt, amountFits, amountsFit, carriesFit, cellsFit, riverWrong}
-use Rattle.river.specs.Rivers.{cellExists, substanceExists, zeroRiver, freshAnswer}
+use Rattle.river.specs.Rivers.{zeroRiver, freshAnswer}
 use Rattle.river.proofs.FreshLaws.{fresh-cells}
 use Rattle.transport.specs.Load.{loadNumber, loadAnswer}
 use Rattle.transport.specs.Flow.{passing, leftOf, movedOf, flowNumber, flowAnswer}
@@ -100,7 +100,8 @@ pub row-balance : (set : Set) (p : Process) (t : Total)
     → sum substances (λ s. contents set t s (entry (row set p) s)) ≡ pos 0
 row-balance = Balance.row-balance
 
-pub process-balance : (set : Set) (p : ℕ) (t : Total) → sum substances (λ s. contents set t s (rowEntry set p s)) ≡ pos 0
+pub process-balance : (set : Set) (p : ℕ) (t : Total)
+    → sum substances (λ s. contents set t s (rowEntry set p s)) ≡ pos 0
 process-balance = Balance.process-balance
 
 -- Every case that document 01 stars comes out as stated.
@@ -108,8 +109,8 @@ pub starred-hold : AllHold starred
 unfolding starred every allOf firstHolding sum tab grid fractionsWrong addsUp figuresWrong yieldsFit constantsFit
     publishedAnswer rowsWrong setNumber entry oxygenChange row processesOf processAt rowEntry rowsOf rowsAnswer
     share times takesPhosphate takesNitrogen ratesOf rateAt productAt quotaAt extentAt temperaturesFit
-    conditionsWrong freshAnswer cellsFit lowestAt highestAt amountFits amountsFit carriesFit riverWrong cellExists
-    substanceExists levelOf loadNumber loadAnswer passing leftOf movedOf flowNumber flowAnswer exchanged gain
+    conditionsWrong freshAnswer cellsFit lowestAt highestAt amountFits amountsFit carriesFit riverWrong
+    levelOf loadNumber loadAnswer passing leftOf movedOf flowNumber flowAnswer exchanged gain
     airFigureWrong airNumber airAnswer carried batches newCarry newAmount steppedAmounts steppedCarries batchesWrong
     stepNumber stepAnswer readingFits scaledFloor round frameFits frameNumber frameAnswer
 starred-hold = all-hold starred refl

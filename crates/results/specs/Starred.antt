@@ -23,7 +23,8 @@ use Rattle.kinetics.specs.declared.Conditions.{Conditions}
 use Rattle.kinetics.specs.Factors.{monod}
 use Rattle.river.specs.declared.Changed.{Changed}
 use Rattle.river.specs.declared.River.{River}
-use Rattle.river.specs.Rivers.{freshAnswer, amountAt, carryAt}
+use Rattle.stoichiometry.specs.Totals.{amountAt}
+use Rattle.river.specs.Rivers.{freshAnswer, carryAt}
 use Rattle.transport.specs.declared.Aired.{Aired}
 use Rattle.transport.specs.declared.Flowed.{Flowed}
 use Rattle.transport.specs.Load.{loadAnswer}
@@ -75,9 +76,10 @@ withSs f =
     }
 
 -- Every factor 10^6.
-abbrev given : ℕ → Conditions
-given seconds =
-    record { seconds = seconds; light = 1000000; temperatures = record { xh = 1000000; xn1 = 1000000; xn2 = 1000000; algae = 1000000; hydrolysis = 1000000 } }
+abbrev conditionsFor : ℕ → Conditions
+conditionsFor seconds =
+    let one : ℕ = 1000000 in
+    record { seconds = seconds; light = one; temperatures = record { xh = one; xn1 = one; xn2 = one; algae = one; hydrolysis = one } }
 
 -- The rows of the published set, and the entry of a substance in the row of process p, counted from 1.
 abbrev rows : Rows
@@ -98,10 +100,10 @@ amountIn r s = amountAt (r .amounts) 0 (place s)
 
 -- XS 1,000,000 alone; what a step of so many seconds answers for it, and a second one of 3,600 s.
 abbrev once : ℕ → Changed
-once seconds = stepAnswer published (loaded fresh (organic xs) (pos 1000000)) (given seconds)
+once seconds = stepAnswer published (loaded fresh (organic xs) (pos 1000000)) (conditionsFor seconds)
 
 abbrev again : Changed
-again = stepAnswer published (once 3600 .river) (given 3600)
+again = stepAnswer published (once 3600 .river) (conditionsFor 3600)
 
 -- A flow of 5,000 with 10,001 of NH4 and −3 of H+, and what leaves of a substance.
 abbrev flowed : Flowed

@@ -1,13 +1,13 @@
 -- Runs of neighbouring substances of a cell: their amounts tested one by one, and by one test of their joined bits
 -- where they have the same bounds. No assumptions.
 use Prim.Native.Nat.{ℕ, _+_, _-_, _≤_, _<_, zero-le}
-use mathlib.Core.Bool.{Bool, true, false, not, _&&_, cond, true≢false}
+use mathlib.Core.Bool.{Bool, true, false, true≢false}
 use mathlib.Core.List.{List}
-use mathlib.Core.Path.{_≡_, refl, sym, ap, ap₂, _∙_}
+use mathlib.Core.Path.{_≡_, refl, sym, _∙_}
 use native.Mathlib.Omega.{arith}
-use borrow.Author.Tests.{ltb-true, ltb-false, lt-ltb, le-leb, not-true}
+use borrow.Author.Tests.{ltb-true, ltb-false}
 use lib.Bits.{bitOr}
-use lib.Dec.{leb, ltb}
+use lib.Dec.{ltb}
 use lib.IntN.{ℤ, pos}
 use lib.ListN.{getD}
 use lib.Signed.{_≤ℤ_, leZ}
@@ -15,18 +15,13 @@ use mir.Syntax.{w64}
 use mir.Val.{toZ, ofZ}
 use Rattle.numeric.specs.Check.{every}
 use Rattle.numeric.proofs.CheckLaws.{and-left, and-right, every-at, every-all}
-use Rattle.numeric.proofs.Comparison.{le-leZ}
+use Rattle.numeric.proofs.Comparison.{leZ-true}
 use Rattle.numeric.proofs.JoinedBits.{or-covers}
 use Rattle.numeric.proofs.Machine.{kept}
 use Rattle.numeric.proofs.RingLaws.{≤ℤ-trans}
-use Rattle.stoichiometry.specs.Substances.{substances}
 use Rattle.river.specs.Rivers.{lowestAt, highestAt, amountFits}
-use Rattle.river.specs.Inner.Runs.{organicAt, netAt, RunFits, SameBounds, Covers}
-use Rattle.river.proofs.Bounds.{lowestOf, highestOf, lowest-kind, highest-kind, fits-lowest, fits-highest}
-
-not-so : (t : Bool) → (t ≡ true → ⊥) → t ≡ false
-not-so true h = absurd (h refl)
-not-so false h = refl
+use Rattle.river.specs.Inner.Runs.{RunFits, sameBounds, CoversAmounts}
+use Rattle.river.proofs.Bounds.{fits-lowest, fits-highest, fits-from}
 
 module _ (amounts : List ℤ) (start first : ℕ) where
   pub run-none : RunFits amounts start first first
@@ -54,23 +49,27 @@ module _ (amounts : List ℤ) (start first : ℕ) where
 -- The first n substances of a cell.
 module _ (amounts : List ℤ) (start n : ℕ) where
   pub run-every : RunFits amounts start 0 n
-      → every n (λ (s : ℕ). amountFits s (getD amounts (start + s) (pos 0))) ≡ true
+      → every n (λ s. amountFits s (getD amounts (start + s) (pos 0))) ≡ true
   run-every all = every-all n _ (λ s before. all s zero-le before)
 
   -- An answer that says whether they fit.
   pub run-decides : (t : Bool) → (t ≡ true → RunFits amounts start 0 n) → (t ≡ false → RunFits amounts start 0 n → ⊥)
-      → t ≡ every n (λ (s : ℕ). amountFits s (getD amounts (start + s) (pos 0)))
+      → t ≡ every n (λ s. amountFits s (getD amounts (start + s) (pos 0)))
   run-decides true fit other = sym (run-every (fit refl))
-  run-decides false fit other =
-      sym (not-so (every n _) (λ e. other refl (λ s from before. every-at n s _ e before)))
+  run-decides false fit other = by-test (every n _) refl
+    where
+      by-test : (e : Bool) → every n (λ s. amountFits s (getD amounts (start + s) (pos 0))) ≡ e → false ≡ e
+      by-test true all = absurd (other refl (λ s from before. every-at n s _ all before))
+      by-test false none = refl
 
 module _ (amounts : List ℤ) (start : ℕ) where
-  pub covers-none : (z : ℤ) → Covers amounts start 0 z
+  pub covers-none : (z : ℤ) → CoversAmounts amounts start 0 z
   covers-none z h i before = let no : ⊥ = omega arith in absurd no
 
   -- One amount more is joined to the bits b.
   pub covers-more : (count b : ℕ) → let x = getD amounts (start + count) (pos 0) in kept x ≡ x
-      → Covers amounts start count (toZ w64 b) → Covers amounts start (count + 1) (toZ w64 (bitOr b (ofZ w64 x)))
+      → CoversAmounts amounts start count (toZ w64 b)
+      → CoversAmounts amounts start (count + 1) (toZ w64 (bitOr b (ofZ w64 x)))
   covers-more count b same all h i before = by-test (ltb i count) refl
     where
       x : ℤ
@@ -89,47 +88,17 @@ module _ (amounts : List ℤ) (start : ℕ) where
           rw only (rw same at (or-covers b (ofZ w64 x) h .1))
 
 -- One test of joined bits.
-pub run-covered : (amounts : List ℤ) (start first end : ℕ) (z : ℤ) → first < end → SameBounds first end
-    → Covers amounts (start + first) (end - first) z → amountFits first z ≡ true → RunFits amounts start first end
-unfolding amountFits
+pub run-covered : (amounts : List ℤ) (start first end : ℕ) (z : ℤ) → first < end → sameBounds first end ≡ true
+    → CoversAmounts amounts (start + first) (end - first) z → amountFits first z ≡ true
+    → RunFits amounts start first end
 run-covered amounts start first end z some same covers fits s from before =
-    let place : start + first + (s - first) ≡ start + s = omega arith in
-    let bounds = same s from before in
-    let from-zero : pos 0 ≤ℤ z = rw (same first (omega arith) some .0) at (fits-lowest first z fits) in
-    let covered = rw place at (covers from-zero (s - first) (omega arith)) in
-    let x = getD amounts (start + s) (pos 0) in
-    let to-most : x ≤ℤ highestAt first = ≤ℤ-trans (covered .1) (fits-highest first z fits) in
-    let low : leZ (lowestAt s) x ≡ true = rw (bounds .0) (le-leZ (pos 0) x (covered .0)) in
-    let high : leZ x (highestAt s) ≡ true = rw (bounds .1) (le-leZ x (highestAt first) to-most) in
-    ap₂ _&&_ low high
-
--- Whether the substances at places first to end - 1 have the same bounds, from 0 on: none is H+ or H2O, and all are
--- organics or none.
-abbrev pub oneKind : ℕ → ℕ → Bool
-oneKind first end =
-    every substances (λ s.
-    cond (leb first s && ltb s end) (not (netAt s) && cond (organicAt first) (organicAt s) (not (organicAt s))) true)
-
-pub same-bounds : (first end : ℕ) → first < end → end ≤ substances → oneKind first end ≡ true → SameBounds first end
-same-bounds first end some within one s from before =
-    let net = not-net s from before in (
-      lowest-kind s (omega arith) ∙ ap lowestOf net,
-      highest-kind s (omega arith) ∙ ap₂ highestOf (kind s from before) (net ∙ sym (not-net first (omega arith) some))
-          ∙ sym (highest-kind first (omega arith)),
-    )
-  where
-    tested : (k : ℕ) → first ≤ k → k < end
-        → not (netAt k) && cond (organicAt first) (organicAt k) (not (organicAt k)) ≡ true
-    tested k low high =
-        let inside : leb first k && ltb k end ≡ true = ap₂ _&&_ (le-leb first k low) (lt-ltb k end high) in
-        rw inside at (every-at substances k _ one (omega arith))
-
-    not-net : (k : ℕ) → first ≤ k → k < end → netAt k ≡ false
-    not-net k low high = not-true (netAt k) (and-left (not (netAt k)) _ (tested k low high))
-
-    alike : (a b : Bool) → cond a b (not b) ≡ true → b ≡ a
-    alike true b e = e
-    alike false b e = not-true b e
-
-    kind : (k : ℕ) → first ≤ k → k < end → organicAt k ≡ organicAt first
-    kind k low high = alike (organicAt first) (organicAt k) (and-right (not (netAt k)) _ (tested k low high))
+    let i = s - first in
+    let is-s : first + i ≡ s = omega arith in
+    let from-zero = leZ-true (pos 0) (lowestAt first) (and-left (leZ (pos 0) (lowestAt first)) _ same) in
+    let others = and-right (leZ (pos 0) (lowestAt first)) _ same in
+    let bounds = rw is-s at (every-at (end - first) i _ others (omega arith)) in
+    let place : start + first + i ≡ start + s = omega arith in
+    let covered = rw place at (covers (≤ℤ-trans from-zero (fits-lowest first z fits)) i (omega arith)) in
+    let lower = leZ-true (lowestAt s) (pos 0) (and-left _ (leZ (highestAt first) (highestAt s)) bounds) in
+    let higher = leZ-true (highestAt first) (highestAt s) (and-right (leZ (lowestAt s) (pos 0)) _ bounds) in
+    fits-from s _ (≤ℤ-trans lower (covered .0)) (≤ℤ-trans (≤ℤ-trans (covered .1) (fits-highest first z fits)) higher)

@@ -1,43 +1,16 @@
--- One cell: its six totals under a set, and its letter (scope, "Flow, air, load, and the book" and "Probe frame,
--- letter, record"). No assumptions.
+-- One cell: its letter (scope, "Probe frame, letter, record"). No assumptions.
 use Prim.Native.Nat.{ℕ, _-_}
 use mathlib.Core.Bool.{not, cond}
-use mathlib.Core.List.{List, [], _∷_, _++_}
+use mathlib.Core.List.{List, [], _∷_}
 use lib.Dec.{ltb, eqb}
-use lib.IntN.{ℤ, pos}
+use lib.IntN.{ℤ}
 use Rattle.numeric.specs.Check.{firstHolding, _when_}
-use Rattle.numeric.specs.Sum.{sum}
-use Rattle.stoichiometry.specs.declared.Set.{Set}
-use Rattle.stoichiometry.specs.Substances.{substances, Total, carbon, hydrogen, oxygen, nitrogen, phosphorus, charge, contents, o2, nh4, place}
+use Rattle.stoichiometry.specs.Substances.{o2, nh4, place}
+use Rattle.stoichiometry.specs.Totals.{amountAt}
 use Rattle.stoichiometry.specs.Levels.{levelOf}
-use Rattle.stoichiometry.specs.Sets.{setChecks}
 use Rattle.river.specs.declared.River.{River}
-use Rattle.river.specs.declared.Totals.{Totals}
 use Rattle.river.specs.declared.Letter.{Letter}
-use Rattle.river.specs.Rivers.{amountAt, riverWrong, cellExists}
-
--- A total of a cell, counted from 0: the contents of all its amounts, added.
-unfoldable pub cellTotal : Set → Total → List ℤ → ℕ → ℤ
-cellTotal set t amounts c = sum substances (λ s. contents set t s (amountAt amounts c s))
-
-unfoldable pub totalsNumber : Set → River → ℕ → ℕ
-totalsNumber set r cell =
-    firstHolding (setChecks set ++ (4 when riverWrong r ∷ 5 when not (cellExists r cell) ∷ []))
-
--- The six totals of a cell, grains; on refusal the number and zeros.
-unfoldable pub totalsAnswer : Set → River → ℕ → Totals
-totalsAnswer set r cell =
-    let n = totalsNumber set r cell in
-    let total : Total → ℤ = λ t. cond (eqb n 0) (cellTotal set t (r .amounts) (cell - 1)) (pos 0) in
-    record {
-      number = n;
-      carbon = total carbon;
-      hydrogen = total hydrogen;
-      oxygen = total oxygen;
-      nitrogen = total nitrogen;
-      phosphorus = total phosphorus;
-      charge = total charge;
-    }
+use Rattle.river.specs.Rivers.{riverWrong, cellExists}
 
 -- The letter by the levels of O2 and NH4, as ASCII: L (76) if that of O2 is below 2,000,000 µg; N (78) if that of NH4
 -- is above 1,000,000 µg; else a hyphen (45).

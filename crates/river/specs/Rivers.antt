@@ -8,7 +8,8 @@ use lib.ListN.{getD, replicate}
 use lib.IntN.{ℤ, pos, negℤ, natAbs}
 use lib.Signed.{leZ}
 use Rattle.numeric.specs.Check.{inRange, every, firstHolding, _when_}
-use Rattle.stoichiometry.specs.Substances.{substances, Substance, organic, nh4, no2, no3, hpo4, o2, hco3, hPlus, xp, h2o, n2, order, mostOrganic, mostGrains, mostNet}
+use Rattle.stoichiometry.specs.Substances.{Substance, organic, nh4, no2, no3, hpo4, o2, hco3, hPlus, xp, h2o, n2}
+use Rattle.stoichiometry.specs.Substances.{substances, order, mostOrganic, mostGrains, mostNet}
 use Rattle.stoichiometry.specs.Rows.{processes}
 use Rattle.river.specs.declared.River.{River}
 use Rattle.river.specs.declared.Changed.{Changed}
@@ -59,10 +60,7 @@ highestAt s = getD (map highest order) s (pos 0)
 unfoldable pub amountFits : ℕ → ℤ → Bool
 amountFits s x = leZ (lowestAt s) x && leZ x (highestAt s)
 
--- Amount s of cell c, and carry p of cell c, all counted from 0.
-abbrev pub amountAt : List ℤ → ℕ → ℕ → ℤ
-amountAt amounts c s = getD amounts (c * substances + s) (pos 0)
-
+-- Carry p of cell c, both counted from 0. Amount s of cell c: amountAt in stoichiometry/specs/Totals.antt.
 abbrev pub carryAt : List ℕ → ℕ → ℕ → ℕ
 carryAt carries c p = getD carries (c * processes + p) 0
 
@@ -70,12 +68,15 @@ carryAt carries c p = getD carries (c * processes + p) 0
 unfoldable pub amountsFit : ℕ → List ℤ → Bool
 amountsFit n amounts =
     every (mostCells * substances) (λ k.
-    cond (ltb (k / substances) n) (amountFits (k % substances) (getD amounts k (pos 0))) (eqb (natAbs (getD amounts k (pos 0))) 0))
+    let x = getD amounts k (pos 0) in
+    cond (ltb (k / substances) n) (amountFits (k % substances) x) (eqb (natAbs x) 0))
 
 -- All carries of the first n cells are at most 999,999 millionths, all others are 0.
 unfoldable pub carriesFit : ℕ → List ℕ → Bool
 carriesFit n carries =
-    every (mostCells * processes) (λ k. cond (ltb (k / processes) n) (leb (getD carries k 0) mostCarry) (eqb (getD carries k 0) 0))
+    every (mostCells * processes) (λ k.
+    let x = getD carries k 0 in
+    cond (ltb (k / processes) n) (leb x mostCarry) (eqb x 0))
 
 -- A river is of 1 to 8 cells.
 unfoldable pub cellsFit : ℕ → Bool
@@ -83,24 +84,29 @@ cellsFit = inRange 1 mostCells
 
 -- A river of these parts is of 1 to 8 cells, its amounts and carries are in their bounds, and beyond its last cell are
 -- zeros.
-abbrev pub riverRight : ℕ → List ℤ → List ℕ → Bool
-riverRight n amounts carries = cellsFit n && amountsFit n amounts && carriesFit n carries
+abbrev pub riverFits : ℕ → List ℤ → List ℕ → Bool
+riverFits n amounts carries = cellsFit n && amountsFit n amounts && carriesFit n carries
 
 -- Check 4: a river is not of 1 to 8 cells, or holds an amount or carry outside its bounds, or anything but zeros
 -- beyond its last cell.
 unfoldable pub riverWrong : River → Bool
-riverWrong r = not (riverRight (r .cells) (r .amounts) (r .carries))
+riverWrong r = not (riverFits (r .cells) (r .amounts) (r .carries))
 
 -- A cell of the river by its number, 1 to the number of cells; a substance by its number, 1 to 18.
-unfoldable pub cellExists : River → ℕ → Bool
+abbrev pub cellExists : River → ℕ → Bool
 cellExists r = inRange 1 (r .cells)
 
-unfoldable pub substanceExists : ℕ → Bool
+abbrev pub substanceExists : ℕ → Bool
 substanceExists = inRange 1 substances
 
 -- A river of n cells, all zeros.
 abbrev pub zeroRiver : ℕ → River
-zeroRiver n = record { cells = n; amounts = replicate (mostCells * substances) (pos 0); carries = replicate (mostCells * processes) 0 }
+zeroRiver n =
+    record {
+      cells = n;
+      amounts = replicate (mostCells * substances) (pos 0);
+      carries = replicate (mostCells * processes) 0;
+    }
 
 -- A fresh river of n cells; 4 and a river of 0 cells where n is not 1 to 8.
 unfoldable pub freshAnswer : ℕ → Changed

@@ -1,14 +1,11 @@
 // The amounts' part of check 4: those of the river's cells are in their bounds, all others are 0.
 ghost use mathlib.Core.Path.{_≡_};
 ghost use mathlib.Core.Bool.{true, false};
-ghost use Prim.Native.Nat.{_+_, _*_, _-_, _<_, _≤_};
-ghost use lib.Dec.{eqb};
-ghost use lib.ListN.{getD};
-ghost use lib.IntN.{pos, natAbs};
-ghost use Rattle.numeric.specs.Check.{every};
+ghost use Prim.Native.Nat.{_+_, _*_, _<_, _≤_};
 ghost use Rattle.stoichiometry.specs.Substances.{substances};
-ghost use Rattle.river.specs.Rivers.{mostCells, lowestAt, highestAt, amountFits, amountAt, amountsFit};
-ghost use Rattle.river.specs.Inner.Runs.{organicAt, netAt, RunFits, SameBounds, Covers};
+ghost use Rattle.river.specs.Rivers.{mostCells, lowestAt, highestAt, amountFits, amountsFit};
+ghost use Rattle.river.specs.Inner.Runs.{organicAt, netAt, RunFits, sameBounds, CoversAmounts};
+ghost use Rattle.river.specs.Inner.Parts.{cellFits, firstCellsFit, noAmountFrom};
 use crate::AMOUNTS;
 use crate::River;
 use numeric::both;
@@ -64,7 +61,7 @@ pub(crate) fn amount_fits(s: usize, x: i64) -> bool
 
 // The amounts of the substances at places `first` to `end` - 1, of the cell that begins at `start`, are in their
 // bounds, tested one by one.
-fn each_fits(amounts: &[i64; AMOUNTS], start: usize, first: usize, end: usize) -> bool
+fn each_amount_fits(amounts: &[i64; AMOUNTS], start: usize, first: usize, end: usize) -> bool
     requires { ⌜ (start + substances ≤ mostCells * substances) × (first ≤ end) × (end ≤ substances) ⌝ }
     ensures fit { λ r. ⌜ (r ≡ true → RunFits (now (amounts .entry)) start first end) ⌝ }
     ensures other { λ r. ⌜ (r ≡ false → RunFits (now (amounts .entry)) start first end → ⊥) ⌝ }
@@ -83,7 +80,7 @@ fn each_fits(amounts: &[i64; AMOUNTS], start: usize, first: usize, end: usize) -
 // The bits of `count` amounts from `start` on, joined. Where that is not below zero, each of them is from 0 to it.
 fn joined(amounts: &[i64; AMOUNTS], start: usize, count: usize) -> i64
     requires { ⌜ start + count ≤ mostCells * substances ⌝ }
-    ensures { λ r. ⌜ Covers (now (amounts .entry)) start count r ⌝ }
+    ensures { λ r. ⌜ CoversAmounts (now (amounts .entry)) start count r ⌝ }
 {
     let mut bits = 0;
     let mut i = 0;
@@ -94,11 +91,11 @@ fn joined(amounts: &[i64; AMOUNTS], start: usize, count: usize) -> i64
     bits
 }
 
-// As `each_fits`, by one test, for substances that have the same bounds, from 0 on: true only where each amount fits.
-// Joined bits may be past the most where no amount is, so false tells nothing.
+// As `each_amount_fits`, by one test, for substances that have the same bounds, from 0 on: true only where each amount
+// fits. Joined bits may be past the most where no amount is, so false tells nothing.
 fn run_fits(amounts: &[i64; AMOUNTS], start: usize, first: usize, end: usize) -> bool
     requires { ⌜ (start + substances ≤ mostCells * substances) × (first < end) × (end ≤ substances) ⌝ }
-    requires { ⌜ SameBounds first end ⌝ }
+    requires { ⌜ sameBounds first end ≡ true ⌝ }
     ensures { λ r. ⌜ (r ≡ true → RunFits (now (amounts .entry)) start first end) ⌝ }
 {
     amount_fits(first, joined(amounts, start + first, end - first))
@@ -116,31 +113,31 @@ fn runs_fit(amounts: &[i64; AMOUNTS], start: usize) -> bool
     if !run_fits(amounts, start, place::NH4, place::H_PLUS) {
         return false;
     }
-    if !each_fits(amounts, start, place::H_PLUS, place::XH) {
+    if !each_amount_fits(amounts, start, place::H_PLUS, place::XH) {
         return false;
     }
     if !run_fits(amounts, start, place::XH, place::XP) {
         return false;
     }
-    each_fits(amounts, start, place::XP, SUBSTANCES)
+    each_amount_fits(amounts, start, place::XP, SUBSTANCES)
 }
 
 // The amounts of the cell that begins at `start` are in their bounds. Nearly every cell passes the few tests; where one
 // does not, the amounts are tested one by one.
 fn cell_fits(amounts: &[i64; AMOUNTS], start: usize) -> bool
     requires { ⌜ start + substances ≤ mostCells * substances ⌝ }
-    ensures { λ r. ⌜ r ≡ every substances (λ s. amountFits s (getD (now (amounts .entry)) (start + s) (pos 0))) ⌝ }
+    ensures { λ r. ⌜ r ≡ cellFits (now (amounts .entry)) start ⌝ }
 {
     if runs_fit(amounts, start) {
         return true;
     }
-    each_fits(amounts, start, 0, SUBSTANCES)
+    each_amount_fits(amounts, start, 0, SUBSTANCES)
 }
 
 // The amounts of the first n cells are in their bounds.
 fn first_cells_fit(n: usize, amounts: &[i64; AMOUNTS]) -> bool
     requires { ⌜ n ≤ mostCells ⌝ }
-    ensures { λ r. ⌜ r ≡ every n (λ c. every substances (λ s. amountFits s (amountAt (now (amounts .entry)) c s))) ⌝ }
+    ensures { λ r. ⌜ r ≡ firstCellsFit n (now (amounts .entry)) ⌝ }
 {
     let mut c = 0;
     while c < n {
@@ -156,7 +153,7 @@ fn first_cells_fit(n: usize, amounts: &[i64; AMOUNTS]) -> bool
 // The amounts from `start` on are zeros.
 fn no_amount_from(start: usize, amounts: &[i64; AMOUNTS]) -> bool
     requires { ⌜ start ≤ mostCells * substances ⌝ }
-    ensures { λ r. ⌜ r ≡ every (mostCells * substances - start) (λ i. eqb (natAbs (getD (now (amounts .entry)) (start + i) (pos 0))) 0) ⌝ }
+    ensures { λ r. ⌜ r ≡ noAmountFrom start (now (amounts .entry)) ⌝ }
 {
     let count = AMOUNTS - start;
     let mut i = 0;

@@ -1,21 +1,18 @@
 // The river: a train of 1 to 8 cells, by value; a fresh one, check 4, and the letter of a cell.
 ghost use mathlib.Core.Path.{_≡_};
-ghost use Rattle.river.specs.Rivers.{amountFits, amountsFit, riverRight, zeroRiver, freshAnswer};
+ghost use Rattle.river.specs.Rivers.{amountFits, amountsFit, riverFits, zeroRiver, freshAnswer};
 ghost use Rattle.river.specs.Cells.{letterAnswer};
-use crate::amounts::amount_fits;
-use crate::amounts::amounts_fit;
+use crate::carries::carries_fit;
 use crate::cells::letter;
-use crate::check::carries_fit;
-use crate::check::cells_fit;
-use numeric::both;
+use numeric::in_range;
 use stoichiometry::PROCESSES;
 use stoichiometry::SUBSTANCES;
 use stoichiometry::place;
 use stoichiometry::refusal;
 
 mod amounts;
+mod carries;
 mod cells;
-mod check;
 
 // The amounts and the carries of all cells.
 pub const AMOUNTS: usize = River::CELLS_MOST * SUBSTANCES;
@@ -50,7 +47,7 @@ impl River {
     pub fn fresh(n: u32) -> Changed
         ensures answer { λ r. ⌜ r ≡ freshAnswer n ⌝ }
     {
-        if cells_fit(n) {
+        if in_range(1, River::CELLS_MOST as u32, n) {
             Changed {
                 number: refusal::NONE,
                 river: zero_river(n),
@@ -81,17 +78,6 @@ pub struct Changed {
     pub river: River,
 }
 
-// The six totals of one cell, grains; on refusal the number and zeros.
-pub struct Totals {
-    pub number: u32,
-    pub carbon: i64,
-    pub hydrogen: i64,
-    pub oxygen: i64,
-    pub nitrogen: i64,
-    pub phosphorus: i64,
-    pub charge: i64,
-}
-
 // The letter of one cell, a byte of ASCII; on refusal the number and 0.
 pub struct Letter {
     pub number: u32,
@@ -112,16 +98,16 @@ impl Letter {
     pub const AMMONIUM_MOST: u64 = 1000000;
 }
 
-// Check 4 passes a river of these parts: it is of 1 to 8 cells, its amounts and carries are in their bounds, and beyond its
-// last cell are zeros. Both arrays are lent for one lifetime, so that a caller can lend two fields of one river.
-pub fn river_right<'a>(cells: u32, amounts: &'a [i64; AMOUNTS], carries: &'a [u32; CARRIES]) -> bool
-    ensures answer { λ r. ⌜ r ≡ riverRight cells (now (amounts .entry)) (now (carries .entry)) ⌝ }
+// Check 4 passes a river of these parts: it is of 1 to 8 cells, its amounts and carries are in their bounds, and beyond
+// its last cell are zeros. Both arrays are lent for one lifetime, so that a caller can lend two fields of one river.
+pub fn river_fits<'a>(cells: u32, amounts: &'a [i64; AMOUNTS], carries: &'a [u32; CARRIES]) -> bool
+    ensures answer { λ r. ⌜ r ≡ riverFits cells (now (amounts .entry)) (now (carries .entry)) ⌝ }
 {
-    if !cells_fit(cells) {
+    if !in_range(1, River::CELLS_MOST as u32, cells) {
         return false;
     }
     let n = cells as usize;
-    if !amounts_fit(n, amounts) {
+    if !amounts::amounts_fit(n, amounts) {
         return false;
     }
     carries_fit(n, carries)
@@ -129,25 +115,25 @@ pub fn river_right<'a>(cells: u32, amounts: &'a [i64; AMOUNTS], carries: &'a [u3
 
 // An amount of the substance at a place, counted from 0, is in its bounds. From place 18 on, where there is none, only
 // 0 is.
-pub fn amount_in_bounds(place: usize, amount: i64) -> bool
+pub fn amount_fits(place: usize, amount: i64) -> bool
     ensures answer { λ r. ⌜ r ≡ amountFits place amount ⌝ }
 {
     if place < SUBSTANCES {
-        amount_fits(place, amount)
+        amounts::amount_fits(place, amount)
     } else {
         amount == 0
     }
 }
 
 // The amounts of a river's cells are in their bounds, all others are 0. A number of cells above 8 is taken for 8.
-pub fn amounts_in_bounds(cells: u32, amounts: &[i64; AMOUNTS]) -> bool
+pub fn amounts_fit(cells: u32, amounts: &[i64; AMOUNTS]) -> bool
     ensures answer { λ r. ⌜ r ≡ amountsFit cells (now (amounts .entry)) ⌝ }
 {
     let n = cells as usize;
     if n <= River::CELLS_MOST {
-        amounts_fit(n, amounts)
+        amounts::amounts_fit(n, amounts)
     } else {
-        amounts_fit(River::CELLS_MOST, amounts)
+        amounts::amounts_fit(River::CELLS_MOST, amounts)
     }
 }
 
@@ -156,13 +142,13 @@ pub fn amounts_in_bounds(cells: u32, amounts: &[i64; AMOUNTS]) -> bool
 pub fn letter_of(river: River, cell: u32) -> Letter
     ensures answer { λ r. ⌜ r ≡ letterAnswer river cell ⌝ }
 {
-    if !river_right(river.cells, &river.amounts, &river.carries) {
+    if !river_fits(river.cells, &river.amounts, &river.carries) {
         return Letter {
             number: refusal::RIVER,
             letter: 0,
         };
     }
-    if both(1 <= cell, cell <= river.cells) {
+    if in_range(1, river.cells, cell) {
         let start = (cell - 1) as usize * SUBSTANCES;
         let oxygen = river.amounts[start + place::O2];
         let ammonium = river.amounts[start + place::NH4];

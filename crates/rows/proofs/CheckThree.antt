@@ -1,9 +1,9 @@
 -- Check 3 as the code asks it, on the rows and the E's that it made with a number for what is asked of a process
--- (specs/Inner/Code.antt), is check 3 of Sets.antt: `wrong-is`. No assumptions.
+-- (specs/Inner/Code.antt), is check 3 of Sets.antt: `wrong-of-made`. No assumptions.
 use Prim.Native.Nat.{ℕ, _<_}
 use mathlib.Core.Bool.{not}
-use mathlib.Core.List.{List, map}
-use mathlib.Core.Path.{_≡_, refl, ap, _∙_}
+use mathlib.Core.List.{List}
+use mathlib.Core.Path.{_≡_, refl, ap}
 use lib.Dec.{lit<}
 use lib.ListN.{getD, List·getD-map}
 use lib.IntN.{ℤ, pos}
@@ -13,24 +13,12 @@ use Rattle.numeric.proofs.TableLaws.{getD-tab}
 use Rattle.stoichiometry.specs.declared.Set.{Set}
 use Rattle.stoichiometry.specs.Rows.{processes, Asked, consumesO2, takesUpNothing, unasked, noProcess, oxygenChange, processesOf, processAt, rowsOf}
 use Rattle.stoichiometry.specs.Sets.{askedMet, rowsWrong}
-use Rattle.rows.specs.Inner.Code.{askedTable, oxygenOf, askedOf, wrongOf}
+use Rattle.rows.specs.Inner.Code.{askedNumber, askedNumbers, oxygenOf, askedOf, wrongOf}
 use Rattle.stoichiometry.proofs.Balance.{getD-rows}
 
--- The code's number for what is asked of a process.
-abbrev askedNumber : Asked → ℕ
-askedNumber consumesO2 = 1
-askedNumber takesUpNothing = 2
-askedNumber unasked = 0
-
-table-is : (set : Set) → askedTable ≡ map (λ q. askedNumber (q .asked)) (processesOf set)
-unfolding processesOf
-table-is set = refl
-
-asked-at : (set : Set) (p : ℕ) → getD askedTable p 0 ≡ askedNumber (processAt set p .asked)
-unfolding processAt
-asked-at set p =
-    ap (λ (l : List ℕ). getD l p 0) (table-is set)
-    ∙ List·getD-map (λ q. askedNumber (q .asked)) (processesOf set) p noProcess
+asked-at : (set : Set) (p : ℕ) → getD (askedNumbers set) p 0 ≡ askedNumber (processAt set p .asked)
+unfolding askedNumbers processAt
+asked-at set p = List·getD-map (λ q. askedNumber (q .asked)) (processesOf set) p noProcess
 
 -- Whatever is asked of the process at p, it has it in the code's rows where it has it in the set's.
 met-is : (set : Set) (p : ℕ) (a : Asked) → p < processes
@@ -47,10 +35,9 @@ met-is set p takesUpNothing h =
     )
 met-is set p unasked h = refl
 
-pub wrong-is : (set : Set) → wrongOf (rowsOf set) (oxygenOf set) ≡ rowsWrong set
+-- Of what was made of the set.
+pub wrong-of-made : {entries es : List ℤ} (set : Set) → entries ≡ rowsOf set → es ≡ oxygenOf set
+    → wrongOf (askedNumbers set) entries es ≡ rowsWrong set
 unfolding wrongOf rowsWrong
-wrong-is set = ap not (every-eq processes _ _ (λ p h. rw (asked-at set p) (met-is set p (processAt set p .asked) h)))
-
--- The same of what was made of the set.
-pub wrong-of-made : {entries es : List ℤ} (set : Set) → entries ≡ rowsOf set → es ≡ oxygenOf set → wrongOf entries es ≡ rowsWrong set
-wrong-of-made set e f = rw (e, f) (wrong-is set)
+wrong-of-made set e f =
+    rw (e, f) (ap not (every-eq processes _ _ (λ p h. rw (asked-at set p) (met-is set p (processAt set p .asked) h))))

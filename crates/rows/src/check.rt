@@ -4,15 +4,14 @@ ghost use Prim.Native.Nat.{_<_};
 ghost use lib.IntN.{pos};
 ghost use lib.Signed.{leZ};
 ghost use Rattle.stoichiometry.specs.Rows.{processes};
-ghost use Rattle.rows.specs.Inner.Code.{askedOf, wrongOf};
+ghost use Rattle.stoichiometry.specs.declared.Set.{Set as AnySet};
+ghost use Rattle.rows.specs.Inner.Code.{askedNumbers, askedOf, wrongOf};
+use crate::processes::asked;
 use numeric::both;
 use stoichiometry::ENTRIES;
 use stoichiometry::PROCESSES;
 use stoichiometry::SUBSTANCES;
 use stoichiometry::place;
-
-// What check 3 asks: 1 that E is below zero, 2 that no NH4, HPO4, O2 or HCO3 is taken up, 0 nothing.
-const ASKED: [u8; PROCESSES] = [1, 1, 1, 1, 1, 1, 1, 1, 1, 1, 0, 0, 1, 2, 2, 0, 0];
 
 fn not_taken_up(entry: i64) -> bool
     ensures { λ r. ⌜ r ≡ leZ (pos 0) entry ⌝ }
@@ -20,7 +19,7 @@ fn not_taken_up(entry: i64) -> bool
     0 <= entry
 }
 
-// The process at p has what check 3 asks of it.
+// The process at p has what check 3 asks of it: 1 that E is below zero, 2 that no NH4, HPO4, O2 or HCO3 is taken up.
 fn asked_met(entries: &[i64; ENTRIES], oxygen: &[i64; PROCESSES], p: usize, asked: u8) -> bool
     requires { ⌜ p < processes ⌝ }
     ensures { λ r. ⌜ r ≡ askedOf (now (entries .entry)) (now (oxygen .entry)) p asked ⌝ }
@@ -41,9 +40,9 @@ fn asked_met(entries: &[i64; ENTRIES], oxygen: &[i64; PROCESSES], p: usize, aske
 
 // Check 3: some process has not what is asked of it.
 pub(crate) fn rows_wrong(entries: &[i64; ENTRIES], oxygen: &[i64; PROCESSES]) -> bool
-    ensures { λ r. ⌜ r ≡ wrongOf (now (entries .entry)) (now (oxygen .entry)) ⌝ }
+    ensures { λ r. ⌜ ((set : AnySet) → r ≡ wrongOf (askedNumbers set) (now (entries .entry)) (now (oxygen .entry))) ⌝ }
 {
-    let asked = ASKED;
+    let asked = asked();
     let mut p = 0;
     while p < PROCESSES {
         if asked_met(entries, oxygen, p, asked[p]) {

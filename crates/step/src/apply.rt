@@ -1,17 +1,19 @@
 // New amounts: old amounts and the batches of every process times its entries.
 ghost use mathlib.Core.Path.{_≡_};
 ghost use Prim.Native.Nat.{_+_, _*_, _≤_, _<_};
-ghost use lib.ListN.{getD, set, replicate};
-ghost use lib.IntN.{pos, natAbs, _+ℤ_};
+ghost use lib.ListN.{set};
+ghost use lib.IntN.{natAbs, _+ℤ_};
 ghost use Rattle.numeric.specs.Sum.{sum};
 ghost use Rattle.numeric.specs.Table.{run};
 ghost use Rattle.stoichiometry.specs.Rows.{processes};
 ghost use Rattle.stoichiometry.specs.Substances.{substances, mostNet};
 ghost use Rattle.river.specs.Rivers.{mostCells};
-ghost use Rattle.rows.specs.Changing.{changingOf, mayChange};
-ghost use Rattle.step.specs.Inner.Stepping.{Whole, Entries, Amounts, addedFrom, appliedFrom};
+ghost use Rattle.rows.specs.Changing.{mayChange, Digits};
+ghost use Rattle.step.specs.Inner.Stepping.{AmountsFit, BatchesFit, EntriesFit, TermsFit, CellReady};
+ghost use Rattle.step.specs.Inner.Stepping.{zeroAmounts, addedFrom, newFrom, appliedFrom};
 use river::AMOUNTS;
 use river::CARRIES;
+use rows::Changing;
 use stoichiometry::ENTRIES;
 use stoichiometry::PROCESSES;
 use stoichiometry::SUBSTANCES;
@@ -43,7 +45,7 @@ fn added_by(
     p: usize,
     changes: bool,
 ) -> i64
-    requires { ⌜ (at + processes ≤ mostCells * processes) × (s < substances) × (p < processes) × Whole (now whole) × Entries (now entries) × (changes ≡ mayChange p s) ⌝ }
+    requires { ⌜ TermsFit (now whole) at (now entries) s × (p < processes) × (changes ≡ mayChange p s) ⌝ }
     ensures { λ r. ⌜ r ≡ addedFrom (now (whole .entry)) at (now (entries .entry)) s p ⌝ }
 {
     if changes {
@@ -63,8 +65,8 @@ fn added(
     s: usize,
     changing: u32,
 ) -> i64
-    requires { ⌜ (natAbs start ≤ mostNet) × (at + processes ≤ mostCells * processes) × (s < substances) × Whole (now whole) × Entries (now entries) × (changing ≡ changingOf s) ⌝ }
-    ensures { λ r. ⌜ r ≡ start +ℤ sum processes (λ p. addedFrom (now (whole .entry)) at (now (entries .entry)) s p) ⌝ }
+    requires { ⌜ TermsFit (now whole) at (now entries) s × (natAbs start ≤ mostNet) × Digits changing s ⌝ }
+    ensures { λ r. ⌜ r ≡ start +ℤ sum processes (addedFrom (now (whole .entry)) at (now (entries .entry)) s) ⌝ }
 {
     let mut total = start;
     let mut digits = changing;
@@ -87,15 +89,16 @@ fn apply_one(
     changing: u32,
     out: &mut [i64; AMOUNTS],
 )
-    requires { ⌜ (c < mostCells) × Amounts (now amounts) × Whole (now whole) × Entries (now entries) × (s < substances) × (changing ≡ changingOf s) ⌝ }
-    ensures { λ r. ⌜ now (out .exit) ≡ set (now (out .entry)) (c * substances + s) (getD (now (amounts .entry)) (c * substances + s) (pos 0) +ℤ sum processes (λ p. addedFrom (now (whole .entry)) (c * processes) (now (entries .entry)) s p)) ⌝ }
+    requires { ⌜ CellReady (now amounts) (now whole) (now entries) c × (s < substances) × Digits changing s ⌝ }
+    ensures { λ r. ⌜ now (out .exit) ≡ set (now (out .entry)) (c * substances + s)
+        (newFrom (now (amounts .entry)) (now (whole .entry)) (now (entries .entry)) c s) ⌝ }
 {
     let k = c * SUBSTANCES + s;
     out[k] = added(amounts[k], whole, c * PROCESSES, entries, s, changing);
 }
 
-// The new amounts of cell c, substance by substance, SS to N2: places and the processes that change each are written
-// out, so that each sum has its terms alone.
+// The new amounts of cell c, substance by substance, SS to N2: each is written out, so that each sum has its terms
+// alone.
 pub(crate) fn apply_cell(
     old: &[i64; AMOUNTS],
     whole: &[i64; CARRIES],
@@ -103,27 +106,28 @@ pub(crate) fn apply_cell(
     c: usize,
     out: &mut [i64; AMOUNTS],
 )
-    requires { ⌜ (c < mostCells) × Amounts (now old) × Whole (now whole) × Entries (now entries) ⌝ }
-    ensures { λ r. ⌜ now (out .exit) ≡ run (now (out .entry)) (c * substances) substances (λ s. getD (now (old .entry)) (c * substances + s) (pos 0) +ℤ sum processes (λ p. addedFrom (now (whole .entry)) (c * processes) (now (entries .entry)) s p)) ⌝ }
+    requires { ⌜ CellReady (now old) (now whole) (now entries) c ⌝ }
+    ensures { λ r. ⌜ now (out .exit) ≡ run (now (out .entry)) (c * substances) substances
+        (newFrom (now (old .entry)) (now (whole .entry)) (now (entries .entry)) c) ⌝ }
 {
-    apply_one(old, whole, entries, c, SS, 0b0_0100_0000_0001_1011, out);
-    apply_one(old, whole, entries, c, SI, 0b0_0000_0000_0000_0000, out);
-    apply_one(old, whole, entries, c, NH4, 0b0_0111_0110_1110_0101, out);
-    apply_one(old, whole, entries, c, NO2, 0b0_0000_0001_0101_1000, out);
-    apply_one(old, whole, entries, c, NO3, 0b0_0000_1001_0010_1010, out);
-    apply_one(old, whole, entries, c, HPO4, 0b1_1111_1111_1111_1111, out);
-    apply_one(old, whole, entries, c, O2, 0b0_0111_1111_1100_0111, out);
-    apply_one(old, whole, entries, c, HCO3, 0b0_0111_1111_1111_1111, out);
-    apply_one(old, whole, entries, c, H_PLUS, 0b0_0111_1111_1111_1111, out);
-    apply_one(old, whole, entries, c, XH, 0b0_0000_0000_0011_1111, out);
-    apply_one(old, whole, entries, c, XN1, 0b0_0000_0000_1100_0000, out);
-    apply_one(old, whole, entries, c, XN2, 0b0_0000_0011_0000_0000, out);
-    apply_one(old, whole, entries, c, XALG, 0b0_0011_1100_0000_0000, out);
-    apply_one(old, whole, entries, c, XS, 0b0_0110_0000_0000_0000, out);
-    apply_one(old, whole, entries, c, XI, 0b0_0011_0010_1010_0100, out);
-    apply_one(old, whole, entries, c, XP, 0b1_1000_0000_0000_0000, out);
-    apply_one(old, whole, entries, c, H2O, 0b0_0111_1111_1111_1111, out);
-    apply_one(old, whole, entries, c, N2, 0b0_0000_0000_0011_0000, out);
+    apply_one(old, whole, entries, c, SS, Changing::SS, out);
+    apply_one(old, whole, entries, c, SI, Changing::SI, out);
+    apply_one(old, whole, entries, c, NH4, Changing::NH4, out);
+    apply_one(old, whole, entries, c, NO2, Changing::NO2, out);
+    apply_one(old, whole, entries, c, NO3, Changing::NO3, out);
+    apply_one(old, whole, entries, c, HPO4, Changing::HPO4, out);
+    apply_one(old, whole, entries, c, O2, Changing::O2, out);
+    apply_one(old, whole, entries, c, HCO3, Changing::HCO3, out);
+    apply_one(old, whole, entries, c, H_PLUS, Changing::H_PLUS, out);
+    apply_one(old, whole, entries, c, XH, Changing::XH, out);
+    apply_one(old, whole, entries, c, XN1, Changing::XN1, out);
+    apply_one(old, whole, entries, c, XN2, Changing::XN2, out);
+    apply_one(old, whole, entries, c, XALG, Changing::XALG, out);
+    apply_one(old, whole, entries, c, XS, Changing::XS, out);
+    apply_one(old, whole, entries, c, XI, Changing::XI, out);
+    apply_one(old, whole, entries, c, XP, Changing::XP, out);
+    apply_one(old, whole, entries, c, H2O, Changing::H2O, out);
+    apply_one(old, whole, entries, c, N2, Changing::N2, out);
 }
 
 // Writes the new amounts of n cells into a list of zeros.
@@ -134,8 +138,10 @@ pub(crate) fn apply_cells(
     entries: &[i64; ENTRIES],
     out: &mut [i64; AMOUNTS],
 )
-    requires { ⌜ (n ≤ mostCells) × Amounts (now amounts) × Whole (now whole) × Entries (now entries) × (now out ≡ replicate (mostCells * substances) (pos 0)) ⌝ }
-    ensures { λ r. ⌜ now (out .exit) ≡ appliedFrom n (now (amounts .entry)) (now (whole .entry)) (now (entries .entry)) ⌝ }
+    requires { ⌜ (n ≤ mostCells) × AmountsFit (now amounts) × BatchesFit (now whole) × EntriesFit (now entries)
+        × (now out ≡ zeroAmounts) ⌝ }
+    ensures { λ r. ⌜ now (out .exit)
+        ≡ appliedFrom n (now (amounts .entry)) (now (whole .entry)) (now (entries .entry)) ⌝ }
 {
     let mut c = 0;
     while c < n {

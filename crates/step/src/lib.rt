@@ -9,8 +9,8 @@ use river::AMOUNTS;
 use river::CARRIES;
 use river::Changed;
 use river::River;
-use river::amounts_in_bounds;
-use river::river_right;
+use river::amounts_fit;
+use river::river_fits;
 use rows::rows_of;
 use stoichiometry::Set;
 use stoichiometry::refusal;
@@ -18,7 +18,6 @@ use stoichiometry::refusal;
 mod apply;
 mod cells;
 mod factors;
-mod figures;
 mod products;
 mod rates;
 mod split;
@@ -26,24 +25,24 @@ mod stepping;
 
 // One step of all cells together. Answers the river after, or the number of the first check that holds (1 to 4, 6, 7,
 // 8) and the river handed in.
-pub fn step_river(set: Set, river: River, given: Conditions) -> Changed
-    ensures answer { λ r. ⌜ r ≡ stepAnswer set river given ⌝ }
+pub fn step_river(set: Set, river: River, conditions: Conditions) -> Changed
+    ensures answer { λ r. ⌜ r ≡ stepAnswer set river conditions ⌝ }
 {
     let rows = rows_of(set);
     if rows.number != refusal::NONE {
         return answered(rows.number, river);
     }
-    if !river_right(river.cells, &river.amounts, &river.carries) {
+    if !river_fits(river.cells, &river.amounts, &river.carries) {
         return answered(refusal::RIVER, river);
     }
-    if conditions_wrong(given) {
+    if conditions_wrong(conditions) {
         return answered(refusal::CONDITIONS, river);
     }
     let mut amounts = [0; AMOUNTS];
     let mut rest = [0; CARRIES];
     let fit = step_cells(
         set,
-        given,
+        conditions,
         river.cells,
         &rows.entries,
         &river.amounts,
@@ -54,7 +53,7 @@ pub fn step_river(set: Set, river: River, given: Conditions) -> Changed
     if !fit {
         return answered(refusal::BATCHES, river);
     }
-    if !amounts_in_bounds(river.cells, &amounts) {
+    if !amounts_fit(river.cells, &amounts) {
         return answered(refusal::BOUNDS, river);
     }
     let after = River {

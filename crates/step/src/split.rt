@@ -1,15 +1,12 @@
 // Whole batches and new carries from extents and old carries, and check 7.
 ghost use mathlib.Core.Path.{_≡_};
 ghost use Prim.Native.Nat.{_+_, _*_, _/_, _%_, _≤_};
-ghost use lib.ListN.{getD};
 ghost use Rattle.numeric.specs.Check.{every};
 ghost use Rattle.numeric.specs.Table.{run};
 ghost use Rattle.stoichiometry.specs.Rows.{processes};
 ghost use Rattle.river.specs.Rivers.{mostCells, mostCarry};
-ghost use lib.IntN.{pos};
-ghost use lib.Signed.{leZ};
-ghost use Rattle.step.specs.Steps.{mostBatches};
-ghost use Rattle.step.specs.Inner.Stepping.{mostExtent, carriedFrom, Extents, Carries};
+ghost use Rattle.step.specs.Inner.Stepping.{mostExtent, ExtentsFit, CarriesFit, wholeOf, restOf, batchFits};
+ghost use Rattle.step.specs.Inner.Stepping.{cellBatchesFit};
 use river::CARRIES;
 use river::River;
 use stoichiometry::PROCESSES;
@@ -40,9 +37,11 @@ pub(crate) fn split(
     whole: &mut [i64; CARRIES],
     rest: &mut [u32; CARRIES],
 )
-    requires { ⌜ (at + processes ≤ mostCells * processes) × Extents (now extents) × Carries (now carries) ⌝ }
-    ensures { λ r. ⌜ now (whole .exit) ≡ run (now (whole .entry)) at processes (λ p. pos (carriedFrom (now (extents .entry)) (now (carries .entry)) at p / 1000000)) ⌝ }
-    ensures { λ r. ⌜ now (rest .exit) ≡ run (now (rest .entry)) at processes (λ p. carriedFrom (now (extents .entry)) (now (carries .entry)) at p % 1000000) ⌝ }
+    requires { ⌜ (at + processes ≤ mostCells * processes) × ExtentsFit (now extents) × CarriesFit (now carries) ⌝ }
+    ensures { λ r. ⌜ now (whole .exit) ≡ run (now (whole .entry)) at processes
+        (wholeOf (now (extents .entry)) (now (carries .entry)) at) ⌝ }
+    ensures { λ r. ⌜ now (rest .exit) ≡ run (now (rest .entry)) at processes
+        (restOf (now (extents .entry)) (now (carries .entry)) at) ⌝ }
 {
     let mut p = 0;
     while p < PROCESSES {
@@ -57,7 +56,7 @@ pub(crate) fn split(
 // No process of the cell whose batches stand from `at` on reaches more than 100,000 whole batches.
 fn cell_batches_fit(whole: &[i64; CARRIES], at: usize) -> bool
     requires { ⌜ at + processes ≤ mostCells * processes ⌝ }
-    ensures { λ r. ⌜ r ≡ every processes (λ p. leZ (getD (now (whole .entry)) (at + p) (pos 0)) (pos mostBatches)) ⌝ }
+    ensures { λ r. ⌜ r ≡ every processes (batchFits (now (whole .entry)) at) ⌝ }
 {
     let mut p = 0;
     while p < PROCESSES {
@@ -73,7 +72,7 @@ fn cell_batches_fit(whole: &[i64; CARRIES], at: usize) -> bool
 // Check 7: no process of the n cells does.
 pub(crate) fn batches_fit(n: usize, whole: &[i64; CARRIES]) -> bool
     requires { ⌜ n ≤ mostCells ⌝ }
-    ensures { λ r. ⌜ r ≡ every n (λ c. every processes (λ p. leZ (getD (now (whole .entry)) (c * processes + p) (pos 0)) (pos mostBatches))) ⌝ }
+    ensures { λ r. ⌜ r ≡ every n (cellBatchesFit (now (whole .entry))) ⌝ }
 {
     let mut c = 0;
     while c < n {

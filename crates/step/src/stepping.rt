@@ -1,14 +1,8 @@
 // What a step does once its set, its river and its conditions have passed their checks.
 ghost use mathlib.Core.Path.{_≡_};
 ghost use mathlib.Core.Bool.{true, not};
-ghost use Prim.Native.Nat.{_*_};
-ghost use lib.IntN.{pos};
-ghost use lib.ListN.{replicate};
-ghost use Rattle.stoichiometry.specs.Rows.{processes};
-ghost use Rattle.stoichiometry.specs.Substances.{substances};
-ghost use Rattle.river.specs.Rivers.{mostCells};
 ghost use Rattle.step.specs.Steps.{batchesWrong, steppedAmounts, steppedCarries};
-ghost use Rattle.step.specs.Inner.Stepping.{Ready, riverWith, answerWith};
+ghost use Rattle.step.specs.Inner.Stepping.{StepReady, zeroAmounts, zeroCarries, riverWith, answerWith};
 use crate::apply::apply_cells;
 use crate::cells::make_batches;
 use crate::split::batches_fit;
@@ -30,7 +24,7 @@ pub(crate) fn answered(number: u32, river: River) -> Changed
 // makes no amount: 7 in any cell comes before 8 in any.
 pub(crate) fn step_cells<'a>(
     set: Set,
-    given: Conditions,
+    conditions: Conditions,
     cells: u32,
     entries: &[i64; ENTRIES],
     before: &'a [i64; AMOUNTS],
@@ -38,14 +32,27 @@ pub(crate) fn step_cells<'a>(
     amounts: &mut [i64; AMOUNTS],
     rest: &mut [u32; CARRIES],
 ) -> bool
-    requires { ⌜ Ready set (riverWith cells (now before) (now carries)) given (now entries) × (now amounts ≡ replicate (mostCells * substances) (pos 0)) × (now rest ≡ replicate (mostCells * processes) 0) ⌝ }
-    ensures { λ r. ⌜ batchesWrong set given (riverWith cells (now (before .entry)) (now (carries .entry))) ≡ not r ⌝ }
-    ensures { λ r. ⌜ (r ≡ true → now (amounts .exit) ≡ steppedAmounts set given (riverWith cells (now (before .entry)) (now (carries .entry)))) ⌝ }
-    ensures { λ r. ⌜ (r ≡ true → now (rest .exit) ≡ steppedCarries set given (riverWith cells (now (before .entry)) (now (carries .entry)))) ⌝ }
+    requires { ⌜ StepReady set (riverWith cells (now before) (now carries)) conditions (now entries)
+        × (now amounts ≡ zeroAmounts) × (now rest ≡ zeroCarries) ⌝ }
+    ensures { λ r. ⌜ batchesWrong set conditions (riverWith cells (now (before .entry)) (now (carries .entry)))
+        ≡ not r ⌝ }
+    ensures { λ r. ⌜ (r ≡ true → now (amounts .exit)
+        ≡ steppedAmounts set conditions (riverWith cells (now (before .entry)) (now (carries .entry)))) ⌝ }
+    ensures { λ r. ⌜ (r ≡ true → now (rest .exit)
+        ≡ steppedCarries set conditions (riverWith cells (now (before .entry)) (now (carries .entry)))) ⌝ }
 {
     let n = cells as usize;
     let mut whole = [0; CARRIES];
-    make_batches(set, given, n, entries, before, carries, &mut whole, rest);
+    make_batches(
+        set,
+        conditions,
+        n,
+        entries,
+        before,
+        carries,
+        &mut whole,
+        rest,
+    );
     if batches_fit(n, &whole) {
         apply_cells(n, before, &whole, entries, amounts);
         true

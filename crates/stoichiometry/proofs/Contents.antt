@@ -1,18 +1,20 @@
--- Laws of places, of weighted sums and entries of changes, and of contents. `entry-weighted` joins them: a sum over all
--- substances is a weighted sum over a list of changes. No assumptions.
+-- Laws of places, of a test of every organic, of weighted sums and entries of changes, and of contents.
+-- `entry-weighted` joins them: a sum over all substances is a weighted sum over a list of changes. No assumptions.
 use Prim.Native.Nat.{ℕ, _<_}
-use mathlib.Core.Bool.{false, cond}
+use mathlib.Core.Bool.{Bool, true, false, cond}
 use mathlib.Core.List.{List, [], _∷_, _++_, map}
 use mathlib.Core.Path.{_≡_, refl, sym, ap₂, _∙_}
-use lib.Dec.{eqb, lit<}
+use lib.Dec.{T, ltb, eqb, lit<}
 use lib.ListN.{getD}
 use lib.IntN.{ℤ, pos, negℤ, _+ℤ_, _*ℤ_, +ℤ-idl, +ℤ-assoc, zero-*ℤ}
 use borrow.Author.Tests.{eq-eqb, ne-eqb}
+use Rattle.numeric.specs.Check.{allOf}
 use Rattle.numeric.specs.Sum.{sum}
+use Rattle.numeric.proofs.CheckLaws.{allOf-at}
 use Rattle.numeric.proofs.RingLaws.{*ℤ-distrib-right, neg-*ℤ}
 use Rattle.numeric.proofs.SumLaws.{sum-zero, sum-add, sum-single}
 use Rattle.stoichiometry.specs.declared.Set.{Set}
-use Rattle.stoichiometry.specs.Substances.{substances, Organic, ss, si, xh, xn1, xn2, xalg, xs, xi, Substance, organic, nh4, no2, no3, hpo4, o2, hco3, hPlus, xp, h2o, n2, order, place, Total, held, heldAt, contents}
+use Rattle.stoichiometry.specs.Substances.{substances, Organic, ss, si, xh, xn1, xn2, xalg, xs, xi, Substance, organic, nh4, no2, no3, hpo4, o2, hco3, hPlus, xp, h2o, n2, order, organics, place, Total, held, heldAt, contents}
 use Rattle.stoichiometry.specs.Rows.{Change, _by_, weighted, entry}
 
 order-at : (w : Substance → ℤ) (s : Substance) → (place s < substances) × (getD (map w order) (place s) (pos 0) ≡ w s)
@@ -38,6 +40,23 @@ order-at w n2 = (lit< tt, refl)
 -- Every substance stands in the order.
 pub place-lt : (s : Substance) → place s < substances
 place-lt s = order-at (λ x. pos 0) s .0
+
+-- A test that every organic of the list passes.
+pub each-organic : (p : Organic → Bool) → allOf p organics ≡ true → (x : Organic) → p x ≡ true
+each-organic p e x =
+    elim x [
+      | ss ↦ at 0 tt
+      | si ↦ at 1 tt
+      | xh ↦ at 2 tt
+      | xn1 ↦ at 3 tt
+      | xn2 ↦ at 4 tt
+      | xalg ↦ at 5 tt
+      | xs ↦ at 6 tt
+      | xi ↦ at 7 tt
+    ]
+  where
+    at : (i : ℕ) → T (ltb i 8) → p (getD organics i ss) ≡ true
+    at i h = allOf-at p organics i ss e (lit< h)
 
 -- At its place stands what the substance holds.
 pub order-place : (set : Set) (t : Total) (s : Substance) → heldAt set t (place s) ≡ held set t s

@@ -3,11 +3,14 @@
 use mathlib.Core.Bool.{true, false}
 use mathlib.Core.List.{[]}
 use mathlib.Core.Path.{_≡_, sym, _∙_}
+use borrow.Author.Tests.{not-false}
 use lib.Dec.{lit<}
 use Rattle.numeric.proofs.CheckLaws.{first-nil, first-holds, first-fails, first-zero}
 use Rattle.stoichiometry.specs.declared.Set.{Set}
-use Rattle.stoichiometry.specs.Parameters.{fractionsWrong, figuresWrong}
+use Rattle.stoichiometry.specs.Substances.{Organic, fractionsOf}
+use Rattle.stoichiometry.specs.Parameters.{addsUp, fractionsWrong, figuresWrong}
 use Rattle.stoichiometry.specs.Sets.{rowsWrong, setNumber}
+use Rattle.stoichiometry.proofs.Contents.{each-organic}
 
 pub number-one : (set : Set) → fractionsWrong set ≡ true → setNumber set ≡ 1
 unfolding setNumber
@@ -26,6 +29,11 @@ pub number-zero : (set : Set) → fractionsWrong set ≡ false → figuresWrong 
     → setNumber set ≡ 0
 unfolding setNumber
 number-zero set e f g = first-fails 1 _ _ e ∙ first-fails 2 _ _ f ∙ first-fails 3 _ _ g ∙ first-nil
+
+-- The fractions of every organic add up where check 1 does not hold.
+pub adds-up : (set : Set) → fractionsWrong set ≡ false → (x : Organic) → addsUp (fractionsOf set x) ≡ true
+unfolding fractionsWrong
+adds-up set e x = each-organic (λ o. addsUp (fractionsOf set o)) (not-false _ e) x
 
 -- No check holds of an accepted set.
 pub accepted-passes : (set : Set) → setNumber set ≡ 0

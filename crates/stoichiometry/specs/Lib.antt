@@ -1,4 +1,5 @@
 pub mod Substances
+pub mod Totals
 pub mod Limits
 pub mod Levels
 pub mod Parameters

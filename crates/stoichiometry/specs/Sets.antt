@@ -13,8 +13,10 @@ use Rattle.stoichiometry.specs.declared.HalfSaturations.{HalfSaturations
 use Rattle.stoichiometry.specs.declared.Set.{Set}
 use Rattle.stoichiometry.specs.declared.Published.{Published}
 use Rattle.stoichiometry.specs.Substances.{place, nh4, hpo4, o2, hco3}
-use Rattle.stoichiometry.specs.Parameters.{fractionsWrong, figuresWrong, constantsFit, fractions, publishedSet, allRates, allHalfSaturations}
-use Rattle.stoichiometry.specs.Rows.{processes, Asked, consumesO2, takesUpNothing, unasked, processAt, oxygenChange, rowEntry}
+use Rattle.stoichiometry.specs.Parameters.{fractionsWrong, figuresWrong, constantsFit, fractions, publishedSet}
+use Rattle.stoichiometry.specs.Parameters.{allRates, allHalfSaturations}
+use Rattle.stoichiometry.specs.Rows.{processes, Asked, consumesO2, takesUpNothing, unasked}
+use Rattle.stoichiometry.specs.Rows.{processAt, oxygenChange, rowEntry}
 
 -- A process at place p has what check 3 asks of it. An entry of 0 is no uptake.
 abbrev pub askedMet : Set → ℕ → Asked → Bool

@@ -1,4 +1,4 @@
--- The substances (scope, "Units and substances"): their order, what one of each holds, and the contents of a number
+-- The substances (scope, "Units and substances"): their order, what one of each holds, and the contents of an amount
 -- of one. A grain, the customer's unit of a substance that is no organic, is 1/312,480 nmol; organics are in µg of
 -- organic matter. Laws: proofs/Contents.antt. No assumptions.
 use Prim.Native.Nat.{ℕ, _*_}
@@ -144,6 +144,6 @@ held set t s = amountOf t (compositionOf set s)
 unfoldable pub heldAt : Set → Total → ℕ → ℤ
 heldAt set t k = getD (map (held set t) order) k (pos 0)
 
--- The contents of a number of the substance at a place: one total, grains.
+-- The contents of an amount of the substance at a place: one total, grains.
 unfoldable pub contents : Set → Total → ℕ → ℤ → ℤ
-contents set t k number = number *ℤ heldAt set t k
+contents set t k amount = amount *ℤ heldAt set t k

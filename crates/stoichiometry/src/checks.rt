@@ -9,6 +9,7 @@ use crate::RateConstants;
 use crate::Set;
 use crate::Yields;
 use numeric::both;
+use numeric::in_range;
 
 // The sum is taken in 64 bits, so that it cannot wrap.
 fn adds_up(f: Fractions) -> bool
@@ -33,11 +34,7 @@ fn all_in_range(figures: &[u32], low: u32, high: u32) -> bool
 {
     let mut i = 0;
     while i < figures.len() {
-        let x = figures[i];
-        if x < low {
-            return false;
-        }
-        if high < x {
+        if !in_range(low, high, figures[i]) {
             return false;
         }
         i += 1;

@@ -9,8 +9,9 @@ use lib.Seq.{length-take-le, getD-take}
 use Rattle.text.specs.Writes.{put}
 use Rattle.text.specs.Decimals.{columns}
 use Rattle.text.specs.Inner.Stages.{Blank, pair, four}
-use Rattle.text.proofs.WriteLaws.{put-before, set-put, store}
-use Rattle.text.proofs.DecimalLaws.{glyph-zero, glyph-digit, next-mark-zero, next-mark-digit, columns-length, columns-turn, blank-set, blank-end}
+use Rattle.text.proofs.WriteLaws.{put-before, two-stored}
+use Rattle.text.proofs.DecimalLaws.{glyph-zero, glyph-digit, next-mark-zero, next-mark-digit, columns-length}
+use Rattle.text.proofs.DecimalLaws.{columns-turn, blank-set, blank-end}
 
 -- The mark alone, in columns that are blank.
 pub mark-stored : (l : List ℕ) (at i m : ℕ) → 0 < i → at + i ≤ length l → Blank l at i
@@ -34,40 +35,39 @@ digit-turn l at i m n some room digit one =
     (ones ∙ sym (glyph-digit n m not-zero)) (sym (next-mark-digit n m not-zero))
 
 -- The digits by the remainder are those of the number.
-pub pair-last : (n h : ℕ) → h ≡ n / 100 → pair (n - h * 100) ≡ pair n
-pair-last n h e =
-    let tens : 48 + (n - h * 100) / 10 % 10 ≡ 48 + n / 10 % 10 = omega arith in
-    let ones : 48 + (n - h * 100) % 10 ≡ 48 + n % 10 = omega arith in
-    ap₂ (λ (x y : ℕ). x ∷ y ∷ []) tens ones
+pair-eq : (a b : ℕ) → a % 100 ≡ b % 100 → pair a ≡ pair b
+pair-eq a b e =
+    let tens : 48 + a / 10 % 10 ≡ 48 + b / 10 % 10 = omega arith in
+    let ones : 48 + a % 10 ≡ 48 + b % 10 = omega arith in
+    rw (tens, ones)
 
-pub four-last : (n h : ℕ) → h ≡ n / 10000 → four (n - h * 10000) ≡ four n
-four-last n h e =
-    let r = n - h * 10000 in
-    let a : 48 + r / 100 / 10 % 10 ≡ 48 + n / 100 / 10 % 10 = omega arith in
-    let b : 48 + r / 100 % 10 ≡ 48 + n / 100 % 10 = omega arith in
-    let c : 48 + r / 10 % 10 ≡ 48 + n / 10 % 10 = omega arith in
-    let d : 48 + r % 10 ≡ 48 + n % 10 = omega arith in
-    rw (a, b, c, d) refl
+pub pair-last : (n : ℕ) → pair (n - n / 100 * 100) ≡ pair n
+pair-last n = pair-eq (n - n / 100 * 100) n (omega arith)
+
+pub four-last : (n : ℕ) → four (n - n / 10000 * 10000) ≡ four n
+four-last n =
+    let r = n - n / 10000 * 10000 in
+    ap₂ _++_ (pair-eq (r / 100) (n / 100) (omega arith)) (pair-eq r n (omega arith))
 
 -- A write behind them leaves columns blank.
-pub blank-put : (l : List ℕ) (at i j k : ℕ) (xs : List ℕ) → Blank l at i → j ≤ i → at + j ≤ k → k ≤ length l
-    → Blank (put l k xs) at j
+pub blank-put : (l l₁ : List ℕ) (at i j k : ℕ) (xs : List ℕ) → Blank l at i → j ≤ i → at + j ≤ k → k ≤ length l
+    → l₁ ≡ put l k xs
+    → Blank l₁ at j
 unfolding put
-blank-put l at i j k xs h le room within n lt =
+blank-put l l₁ at i j k xs h le room within e n lt =
     let long : length (take k l) ≡ k = length-take-le k l within in
-    List·getD-append (take k l) (xs ++ drop (k + length xs) l) 0 (at + n) (omega arith)
+    rw e
+    (List·getD-append (take k l) (xs ++ drop (k + length xs) l) 0 (at + n) (omega arith)
     ∙ getD-take k l (at + n) 0 (omega arith)
-    ∙ h n (omega arith)
+    ∙ h n (omega arith))
 
 -- The two stores of a pair.
-pub pair-stored : (l : List ℕ) (at n tens : ℕ) → n < 100 → at + 2 ≤ length l → tens ≡ n / 10
-    → set (set l at (48 + tens)) (at + 1) (48 + (n - tens * 10)) ≡ put l at (pair n)
-pair-stored l at n tens small room e =
-    let first : 48 + tens ≡ 48 + n / 10 % 10 = omega arith in
-    let second : 48 + (n - tens * 10) ≡ 48 + n % 10 = omega arith in
-    store l (set l at (48 + tens)) at 1 (at + 1) (48 + (n - tens * 10)) ((48 + tens) ∷ []) refl refl (omega arith)
-    (set-put l at (48 + tens) (omega arith))
-    ∙ ap₂ (λ (x y : ℕ). put l at (x ∷ y ∷ [])) first second
+pub pair-stored : (l : List ℕ) (at n : ℕ) → n < 100 → at + 2 ≤ length l
+    → set (set l at (48 + n / 10)) (at + 1) (48 + (n - n / 10 * 10)) ≡ put l at (pair n)
+pair-stored l at n small room =
+    let tens : 48 + n / 10 ≡ 48 + n / 10 % 10 = omega arith in
+    let ones : 48 + (n - n / 10 * 10) ≡ 48 + n % 10 = omega arith in
+    two-stored l at _ _ room ∙ ap₂ (λ (x y : ℕ). put l at (x ∷ y ∷ [])) tens ones
 
 -- Columns that end with two digits, and with four.
 columns-two : (j m r : ℕ) → 10 ≤ r → columns (suc (suc j)) m r ≡ columns j m (r / 100) ++ pair r
@@ -76,30 +76,31 @@ columns-two j m r h =
     let tens : r / 10 ≡ 0 → ⊥ = λ e. omega arith in
     let ones : r ≡ 0 → ⊥ = λ e. omega arith in
     let hundreds : r / 10 / 10 ≡ r / 100 = omega arith in
-    rw (next-mark-digit r m ones, next-mark-digit (r / 10) m tens, glyph-digit r m ones, glyph-digit (r / 10) m tens, hundreds)
-    (append-assoc (columns j m (r / 100)) ((48 + r / 10 % 10) ∷ []) ((48 + r % 10) ∷ []))
+    rw (next-mark-digit r m ones, next-mark-digit (r / 10) m tens, glyph-digit r m ones, glyph-digit (r / 10) m tens)
+    (rw hundreds (append-assoc (columns j m (r / 100)) ((48 + r / 10 % 10) ∷ []) ((48 + r % 10) ∷ [])))
 
 columns-four : (j m r : ℕ) → 1000 ≤ r → columns (suc (suc (suc (suc j)))) m r ≡ columns j m (r / 10000) ++ four r
 columns-four j m r h =
     let thousands : r / 100 / 100 ≡ r / 10000 = omega arith in
-    columns-two (suc (suc j)) m r (omega arith)
-    ∙ ap (λ (t : List ℕ). t ++ pair r) (columns-two j m (r / 100) (omega arith))
-    ∙ append-assoc (columns j m (r / 100 / 100)) (pair (r / 100)) (pair r)
-    ∙ ap (λ (n : ℕ). columns j m n ++ four r) thousands
+    rw (columns-two (suc (suc j)) m r (omega arith), columns-two j m (r / 100) (omega arith), thousands)
+    (append-assoc (columns j m (r / 10000)) (pair (r / 100)) (pair r))
 
 module _ (l : List ℕ) (at i m r : ℕ) (room : at + i ≤ length l) where
-  -- Two digits are written: the columns before them are left.
-  pub pair-turn : 2 ≤ i → 10 ≤ r → put (put l (at + (i - 2)) (pair r)) at (columns (i - 2) m (r / 100)) ≡ put l at (columns i m r)
-  pair-turn two h =
-      let all : suc (suc (i - 2)) ≡ i = omega arith in
-      let long = columns-length (i - 2) m (r / 100) in
-      put-before l at (at + (i - 2)) (columns (i - 2) m (r / 100)) (pair r) (omega arith) (omega arith)
-      ∙ ap (put l at) (sym (columns-two (i - 2) m r h) ∙ ap (λ (k : ℕ). columns k m r) all)
+  -- The last d digits are written: the columns before them are left.
+  last-turn : (d q : ℕ) (xs : List ℕ) → length xs ≡ d → d ≤ i → columns i m r ≡ columns (i - d) m q ++ xs
+      → put (put l (at + (i - d)) xs) at (columns (i - d) m q) ≡ put l at (columns i m r)
+  last-turn d q xs e le whole =
+      let long = columns-length (i - d) m q in
+      rw whole (put-before l at (at + (i - d)) (columns (i - d) m q) xs (omega arith) (omega arith))
 
-  -- Four digits are written.
-  pub four-turn : 4 ≤ i → 1000 ≤ r → put (put l (at + (i - 4)) (four r)) at (columns (i - 4) m (r / 10000)) ≡ put l at (columns i m r)
+  pub pair-turn : 2 ≤ i → 10 ≤ r
+      → put (put l (at + (i - 2)) (pair r)) at (columns (i - 2) m (r / 100)) ≡ put l at (columns i m r)
+  pair-turn two h =
+      let all : i ≡ suc (suc (i - 2)) = omega arith in
+      last-turn 2 (r / 100) (pair r) refl two (ap (λ (k : ℕ). columns k m r) all ∙ columns-two (i - 2) m r h)
+
+  pub four-turn : 4 ≤ i → 1000 ≤ r
+      → put (put l (at + (i - 4)) (four r)) at (columns (i - 4) m (r / 10000)) ≡ put l at (columns i m r)
   four-turn some h =
-      let all : suc (suc (suc (suc (i - 4)))) ≡ i = omega arith in
-      let long = columns-length (i - 4) m (r / 10000) in
-      put-before l at (at + (i - 4)) (columns (i - 4) m (r / 10000)) (four r) (omega arith) (omega arith)
-      ∙ ap (put l at) (sym (columns-four (i - 4) m r h) ∙ ap (λ (k : ℕ). columns k m r) all)
+      let all : i ≡ suc (suc (suc (suc (i - 4)))) = omega arith in
+      last-turn 4 (r / 10000) (four r) refl some (ap (λ (k : ℕ). columns k m r) all ∙ columns-four (i - 4) m r h)

@@ -9,7 +9,7 @@ use lib.Bits.{bitAnd, and-block, and-mask}
 use lib.ListN.{length, set}
 use Rattle.text.specs.Writes.{put}
 use Rattle.text.specs.Inner.Stages.{four, packed}
-use Rattle.text.proofs.WriteLaws.{set-put, store}
+use Rattle.text.proofs.WriteLaws.{two-stored, store}
 
 -- A tenth of a number below 100, and four bits below a multiple of 64.
 tenth : (n : ℕ) → n < 100 → n * 103 / 1024 ≡ n / 10
@@ -58,14 +58,6 @@ four-packed n t small e =
     ∙ ap₂ (λ (x y : ℕ). packed ((48 + x) ∷ (48 + y) ∷ (48 + l / 10) ∷ (48 + (l - l / 10 * 10)) ∷ [])) a b
     ∙ ap₂ (λ (x y : ℕ). packed ((48 + h / 10 % 10) ∷ (48 + h % 10) ∷ (48 + x) ∷ (48 + y) ∷ [])) c d
 
--- Four stores are one write.
-stores : (l : List ℕ) (at a b c d : ℕ) → at + 4 ≤ length l
-    → set (set (set (set l at a) (at + 1) b) (at + 2) c) (at + 3) d ≡ put l at (a ∷ b ∷ c ∷ d ∷ [])
-stores l at a b c d room =
-    store l _ at 3 (at + 3) d (a ∷ b ∷ c ∷ []) refl refl (omega arith)
-    (store l _ at 2 (at + 2) c (a ∷ b ∷ []) refl refl (omega arith)
-    (store l _ at 1 (at + 1) b (a ∷ []) refl refl (omega arith) (set-put l at a (omega arith))))
-
 module _ (a b c d n : ℕ) (a-byte : a < 256) (b-byte : b < 256) (c-byte : c < 256) (d-byte : d < 256)
     (e : n ≡ packed (a ∷ b ∷ c ∷ d ∷ [])) where
   -- The bytes of n are a, b, c and d.
@@ -85,4 +77,7 @@ module _ (a b c d n : ℕ) (a-byte : a < 256) (b-byte : b < 256) (c-byte : c < 2
   pub four-stored : (l : List ℕ) (at : ℕ) → at + 4 ≤ length l
       → set (set (set (set l at (n % 256)) (at + 1) (n / 256 % 256)) (at + 2) (n / 65536 % 256)) (at + 3) (n / 16777216)
       ≡ put l at (a ∷ b ∷ c ∷ d ∷ [])
-  four-stored l at room = rw (byte-0, byte-1, byte-2, byte-3) (stores l at a b c d room)
+  four-stored l at room =
+      rw (byte-0, byte-1, byte-2, byte-3)
+      (store l _ at 3 (at + 3) d (a ∷ b ∷ c ∷ []) refl refl (omega arith)
+      (store l _ at 2 (at + 2) c (a ∷ b ∷ []) refl refl (omega arith) (two-stored l at a b (omega arith))))

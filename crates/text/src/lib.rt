@@ -26,6 +26,13 @@ pub fn write_decimal(out: &mut [u8], at: usize, width: usize, value: i64)
     }
 }
 
+// The bytes of n in two columns: its tens, a blank where there are none, and its ones; of more digits the last two.
+pub fn two_columns(n: u32) -> [u8; 2]
+    ensures columns { λ r. ⌜ r ≡ plain 2 32 n ⌝ }
+{
+    [glyph((n / 10) as u64, b' '), b'0' + (n % 10) as u8]
+}
+
 // n in two columns from `at` on, where both are there.
 pub fn write_two(out: &mut [u8], at: usize, n: u32)
     ensures out { λ _. ⌜ now (out .exit) ≡ putWithin (now (out .entry)) at (plain 2 32 n) ⌝ }
@@ -36,9 +43,10 @@ pub fn write_two(out: &mut [u8], at: usize, n: u32)
     if out.len() - at < 2 {
         return;
     }
+    let columns = two_columns(n);
     let second = at + 1;
-    out[at] = glyph((n / 10) as u64, b' ');
-    out[second] = b'0' + (n % 10) as u8;
+    out[at] = columns[0];
+    out[second] = columns[1];
 }
 
 // The first `count` bytes of `to` become those of `from`, where both have as many.

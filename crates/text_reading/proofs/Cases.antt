@@ -4,11 +4,12 @@ use mathlib.Core.List.{List, [], _∷_, map}
 use mathlib.Core.Path.{_≡_, refl}
 use lib.IntN.{pos, negsuc}
 use lib.ListN.{replicate}
-use Rattle.text_reading.specs.declared.Number.{Number}
-use Rattle.text_reading.specs.Reading.{isDigit, digit, other, next, runOn, accepted, none, signed, within, finish, parse}
+use Rattle.text_reading.specs.declared.Decimal.{Decimal}
+use Rattle.text_reading.specs.Reading.{isDigit, digit, other, next, runOn}
+use Rattle.text_reading.specs.Reading.{accepted, none, signed, within, finish, parse}
 
 -- From −99 to 99.
-abbrev small : List ℕ → Number
+abbrev small : List ℕ → Decimal
 small = parse (negsuc 98) (pos 99)
 
 -- "-0", "00", "+1".

@@ -1,40 +1,40 @@
 // Inner functions of the strict reader, in the order of the columns: blanks, a mark, digits. One pass over the bytes; a
-// text that is no number is refused at the byte that shows it. The public call is at the crate's root.
+// text that is no decimal is refused at the byte that shows it. The public call is at the crate's root.
 ghost use mathlib.Core.Path.{_≡_};
 ghost use Prim.Native.Nat.{_+_, _-_, _*_, _≤_};
 ghost use lib.ListN.{getD};
 ghost use Rattle.text_reading.specs.Reading.{isDigit, none, signed, within, finish, parse};
 ghost use Rattle.text_reading.specs.Inner.Digits.{digitsSeen};
-ghost use Rattle.text_reading.specs.Inner.Stages.{Blanks, Ready};
-use crate::Number;
+ghost use Rattle.text_reading.specs.Inner.Stages.{LeadingBlanks, DigitsFrom};
+use crate::Decimal;
 use numeric::both;
 
-// As many digits fit 64 bits; a number of more is past the largest that is read.
+// As many digits fit 64 bits; more are past the largest value that is read.
 const DIGITS: usize = 19;
 
 const LARGEST: u64 = 1_000_000_000_000_000_009;
 
-// The answer of a text that is no number.
-fn none() -> Number
+// The answer of a text that is no decimal.
+fn none() -> Decimal
     ensures { λ r. ⌜ r ≡ none ⌝ }
 {
-    Number {
+    Decimal {
         ok: false,
         value: 0,
     }
 }
 
-// The answer of a number: itself from `lowest` to `highest`, otherwise none.
-fn within(lowest: i64, highest: i64, value: i64) -> Number
+// The answer of a value: itself from `lowest` to `highest`, otherwise none.
+fn within(lowest: i64, highest: i64, value: i64) -> Decimal
     ensures { λ r. ⌜ r ≡ within lowest highest value ⌝ }
 {
     if both(lowest <= value, value <= highest) {
-        return Number { ok: true, value };
+        return Decimal { ok: true, value };
     }
     none()
 }
 
-// The digits' number with its mark.
+// The digits' value with its mark.
 fn signed(mark: u8, size: u64) -> i64
     requires { ⌜ size ≤ 1_000_000_000_000_000_009 ⌝ }
     ensures { λ r. ⌜ r ≡ signed mark size ⌝ }
@@ -46,8 +46,8 @@ fn signed(mark: u8, size: u64) -> i64
     }
 }
 
-// The answer for columns of this mark and digits of this number.
-fn counted(lowest: i64, highest: i64, mark: u8, size: u64) -> Number
+// The answer for columns of this mark and digits of this value.
+fn counted(lowest: i64, highest: i64, mark: u8, size: u64) -> Decimal
     ensures { λ r. ⌜ r ≡ finish lowest highest (digitsSeen mark size) ⌝ }
 {
     if size == 0 {
@@ -77,7 +77,7 @@ fn wide(x: u8) -> u64
     x as u64
 }
 
-// The number of two digits.
+// The value of two digits.
 fn pair(a: u8, b: u8) -> u64
     requires { ⌜ (48 ≤ a) × (a ≤ 57) ⌝ }
     requires { ⌜ (48 ≤ b) × (b ≤ 57) ⌝ }
@@ -88,7 +88,7 @@ fn pair(a: u8, b: u8) -> u64
 
 // How many blanks the columns begin with.
 pub(crate) fn blanks(columns: &[u8]) -> usize
-    ensures { λ r. ⌜ Blanks (now (columns .entry)) r ⌝ }
+    ensures { λ r. ⌜ LeadingBlanks (now (columns .entry)) r ⌝ }
 {
     let mut i = 0;
     while i < columns.len() {
@@ -101,9 +101,9 @@ pub(crate) fn blanks(columns: &[u8]) -> usize
     i
 }
 
-// The number of columns whose blanks and mark end at `start`, where no zero stands: two digits a turn, then the last.
-fn digits_after(columns: &[u8], start: usize, mark: u8, lowest: i64, highest: i64) -> Number
-    requires { ⌜ Ready (now columns) start mark ⌝ }
+// The decimal of columns whose blanks and mark end at `start`, where no zero stands: two digits a turn, then the last.
+fn digits_after(columns: &[u8], start: usize, mark: u8, lowest: i64, highest: i64) -> Decimal
+    requires { ⌜ DigitsFrom (now columns) start mark ⌝ }
     requires { ⌜ (getD (now columns) start 0 ≡ 48 → ⊥) ⌝ }
     ensures { λ r. ⌜ r ≡ parse lowest highest (now (columns .entry)) ⌝ }
 {
@@ -132,15 +132,15 @@ fn digits_after(columns: &[u8], start: usize, mark: u8, lowest: i64, highest: i6
     counted(lowest, highest, mark, size)
 }
 
-// The number of columns whose blanks and mark end at `start`: a zero there has to stand alone, without a minus.
-pub(crate) fn number_after(
+// The decimal of columns whose blanks and mark end at `start`: a zero there has to stand alone, without a minus.
+pub(crate) fn decimal_after(
     columns: &[u8],
     start: usize,
     mark: u8,
     lowest: i64,
     highest: i64,
-) -> Number
-    requires { ⌜ Ready (now columns) start mark ⌝ }
+) -> Decimal
+    requires { ⌜ DigitsFrom (now columns) start mark ⌝ }
     ensures { λ r. ⌜ r ≡ parse lowest highest (now (columns .entry)) ⌝ }
 {
     let end = columns.len();

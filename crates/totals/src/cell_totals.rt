@@ -5,15 +5,16 @@ ghost use lib.IntN.{pos};
 ghost use lib.ListN.{getD};
 ghost use Rattle.stoichiometry.specs.Substances.{organicComposition, substances};
 ghost use Rattle.river.specs.Rivers.{mostCells};
-ghost use Rattle.totals.specs.Inner.TotalsCode.{parts, weightsOf, weightedTotal, totalsAt, refusedTotals, Addable, AllAddable};
+ghost use Rattle.totals.specs.Inner.TotalsCode.{parts, weightsOf, weightedTotal, totalsAt, refusedTotals};
+ghost use Rattle.totals.specs.Inner.TotalsCode.{AddableAmounts, AddableTotals};
+use crate::Totals;
 use river::AMOUNTS;
-use river::Totals;
 use stoichiometry::Fractions;
 use stoichiometry::SUBSTANCES;
 use stoichiometry::Set;
 use stoichiometry::refusal;
 
-// The totals by number.
+// The places of the totals.
 const CARBON: usize = 0;
 
 const HYDROGEN: usize = 1;
@@ -99,7 +100,7 @@ fn weights(set: Set, t: usize) -> [i64; SUBSTANCES]
 // The sum of amount × weight over the cell that starts at `start`.
 fn weighted_total(amounts: &[i64; AMOUNTS], start: usize, weights: &[i64; SUBSTANCES]) -> i64
     requires { ⌜ start + substances ≤ mostCells * substances ⌝ }
-    requires { ⌜ Addable (now amounts) start (now weights) ⌝ }
+    requires { ⌜ AddableAmounts (now amounts) start (now weights) ⌝ }
     ensures { λ r. ⌜ r ≡ weightedTotal (now (amounts .entry)) start (now (weights .entry)) ⌝ }
 {
     let mut sum = 0;
@@ -115,7 +116,7 @@ fn weighted_total(amounts: &[i64; AMOUNTS], start: usize, weights: &[i64; SUBSTA
 fn total(set: Set, amounts: &[i64; AMOUNTS], start: usize, t: usize) -> i64
     requires { ⌜ t < 6 ⌝ }
     requires { ⌜ start + substances ≤ mostCells * substances ⌝ }
-    requires { ⌜ AllAddable set (now amounts) start ⌝ }
+    requires { ⌜ AddableTotals set (now amounts) start ⌝ }
     ensures { λ r. ⌜ r ≡ weightedTotal (now (amounts .entry)) start (weightsOf set t) ⌝ }
 {
     let w = weights(set, t);
@@ -124,7 +125,7 @@ fn total(set: Set, amounts: &[i64; AMOUNTS], start: usize, t: usize) -> i64
 
 pub(crate) fn totals_at(set: Set, amounts: &[i64; AMOUNTS], start: usize) -> Totals
     requires { ⌜ start + substances ≤ mostCells * substances ⌝ }
-    requires { ⌜ AllAddable set (now amounts) start ⌝ }
+    requires { ⌜ AddableTotals set (now amounts) start ⌝ }
     ensures { λ r. ⌜ r ≡ totalsAt set (now (amounts .entry)) start ⌝ }
 {
     Totals {

@@ -5,41 +5,35 @@ use Prim.Native.Nat.{ℕ, _+_, _*_, _-_, _/_, _≤_, zero-le}
 use native.Mathlib.Nat.{mul-le-mul, le-refl}
 use native.Mathlib.Omega.{arith}
 use native.Mathlib.Decide.{decLe}
-use mathlib.Core.Bool.{Bool, true, false, _&&_}
+use mathlib.Core.Bool.{true, false, not, _&&_}
 use mathlib.Core.List.{[], _∷_}
-use mathlib.Core.Path.{_≡_, refl}
+use mathlib.Core.Path.{_≡_, refl, ap}
 use borrow.Author.Tests.{leb-true, le-leb, not-false}
 use lib.Dec.{leb, lit<}
 use lib.IntN.{ℤ, pos, negℤ, natAbs, _+ℤ_, _-ℤ_}
 use lib.Signed.{pos-natAbs, yes-nonNeg}
-use Rattle.numeric.specs.Check.{firstHolding}
-use Rattle.numeric.proofs.Bounds.{abs-of-nonneg}
-use Rattle.numeric.proofs.CheckLaws.{and-left, and-right}
+use Rattle.numeric.specs.Check.{inRange, allOf, _when_}
+use Rattle.numeric.proofs.CheckLaws.{and-left, and-right, leb-within, first-last}
 use Rattle.numeric.proofs.Expression.{v, _⊖_, ⊝, equal}
 use Rattle.numeric.proofs.Quotient.{quot-neg}
 use Rattle.numeric.proofs.RingLaws.{neg-*ℤ}
-use Rattle.stoichiometry.specs.Substances.{o2, place, grainsPerMicrogramO, mostGrains}
-use Rattle.river.specs.declared.River.{River}
-use Rattle.stoichiometry.specs.Levels.{levelOf}
-use Rattle.river.specs.Rivers.{lowestAt, highestAt, amountFits, amountAt, riverWrong, cellExists}
-use Rattle.transport.specs.declared.Aired.{Aired}
-use Rattle.transport.specs.Load.{withAmount}
-use Rattle.transport.specs.Air.{exchanged, gain, gainAt, airedAmount, airFigureWrong, airNumber, airAnswer}
-use Rattle.river.proofs.Bounds.{fits-lowest, fits-highest}
-use Rattle.river.proofs.Rivers.{amount-fits-at, cell-bound}
 use Rattle.stoichiometry.specs.Limits.{mostSeconds, mostSaturation}
+use Rattle.stoichiometry.specs.Substances.{o2, place, grainsPerMicrogramO, mostGrains}
+use Rattle.stoichiometry.specs.Totals.{amountAt}
+use Rattle.stoichiometry.specs.Levels.{levelOf}
+use Rattle.river.specs.declared.River.{River}
+use Rattle.river.specs.Rivers.{lowestAt, highestAt, amountFits, riverWrong, cellExists}
+use Rattle.river.proofs.Bounds.{fits-level}
+use Rattle.river.proofs.Rivers.{AmountKnown, amount-known}
+use Rattle.transport.specs.Air.{exchanged, gain, airedAmount, airFigureWrong, airNumber}
 
 -- An amount of O2 in its bounds is a number of grains up to 10^16, and such a number is in them.
-pub oxygen-grains : (x : ℤ) → amountFits (place o2) x ≡ true → pos (natAbs x) ≡ x
-unfolding lowestAt
-oxygen-grains x e = pos-natAbs x (yes-nonNeg (fits-lowest (place o2) x e))
+pub oxygen-grains : (x : ℤ) → amountFits (place o2) x ≡ true → (pos (natAbs x) ≡ x) × (natAbs x ≤ mostGrains)
+oxygen-grains x e =
+    let level = fits-level (place o2) x (lit< tt) refl e in
+    (pos-natAbs x (yes-nonNeg (level .0)), level .1)
 
-pub oxygen-bound : (x : ℤ) → amountFits (place o2) x ≡ true → natAbs x ≤ mostGrains
-unfolding lowestAt highestAt
-oxygen-bound x e =
-    abs-of-nonneg x mostGrains (fits-lowest (place o2) x e) (fits-highest (place o2) x e)
-
-pub oxygen-fits : (n : ℕ) → n ≤ mostGrains → amountFits (place o2) (pos n) ≡ true
+oxygen-fits : (n : ℕ) → n ≤ mostGrains → amountFits (place o2) (pos n) ≡ true
 unfolding amountFits lowestAt highestAt
 oxygen-fits n h = rw (le-leb 0 n zero-le, le-leb n mostGrains h)
 
@@ -62,28 +56,29 @@ record OxygenAfter (saturation n : ℕ) (x : ℤ) : Type 0 where
   rising : levelOf o2 (pos n) ≤ saturation → (levelOf o2 (pos n) ≤ levelOf o2 x) × (levelOf o2 x ≤ saturation)
   falling : saturation ≤ levelOf o2 (pos n) → (saturation ≤ levelOf o2 x) × (levelOf o2 x ≤ levelOf o2 (pos n))
 
-module _ (k seconds saturation : ℕ) (figures : airFigureWrong k seconds saturation ≡ false) where
-  in-range : leb k 20000 && (leb 1 seconds && leb seconds mostSeconds) && leb saturation mostSaturation ≡ true
-  unfolding airFigureWrong
-  in-range = not-false _ figures
+-- Figures of which check 6 does not hold.
+pub record AirFigures (k seconds saturation : ℕ) : Type 0 where
+  pub constant : k ≤ 20000
+  pub time : seconds ≤ mostSeconds
+  pub most : saturation ≤ mostSaturation
 
-  rate-in-range : leb k 20000 && (leb 1 seconds && leb seconds mostSeconds) ≡ true
-  rate-in-range = and-left _ (leb saturation mostSaturation) in-range
+pub air-figures : (k seconds saturation : ℕ) → airFigureWrong k seconds saturation ≡ false
+    → AirFigures k seconds saturation
+unfolding airFigureWrong
+air-figures k seconds saturation right =
+    let all = not-false _ right in
+    let rate = and-left _ (leb saturation mostSaturation) all in
+    record {
+      constant = leb-true k 20000 (and-left _ (inRange 1 mostSeconds seconds) rate);
+      time = leb-within 1 seconds mostSeconds (and-right (leb k 20000) _ rate) .1;
+      most = leb-true saturation mostSaturation (and-right (leb k 20000 && inRange 1 mostSeconds seconds) _ all);
+    }
 
-  pub constant-bound : k ≤ 20000
-  constant-bound = leb-true k 20000 (and-left _ (leb 1 seconds && leb seconds mostSeconds) rate-in-range)
-
-  pub seconds-bound : seconds ≤ mostSeconds
-  seconds-bound = leb-true seconds mostSeconds (and-right (leb 1 seconds) _ (and-right (leb k 20000) _ rate-in-range))
-
-  pub saturation-bound : saturation ≤ mostSaturation
-  saturation-bound =
-      leb-true saturation mostSaturation (and-right (leb k 20000 && (leb 1 seconds && leb seconds mostSeconds)) _ in-range)
-
+module _ (k seconds saturation : ℕ) (figures : AirFigures k seconds saturation) where
   moved-le : (d : ℕ) → moved k seconds d ≤ d
   unfolding moved
   moved-le d =
-      let part = exchanged-bound k seconds constant-bound seconds-bound in
+      let part = exchanged-bound k seconds (figures .constant) (figures .time) in
       let most : d * exchanged k seconds ≤ d * 1000000000 = mul-le-mul (le-refl d) (omega arith) in
       omega arith
 
@@ -126,7 +121,7 @@ module _ (k seconds saturation : ℕ) (figures : airFigureWrong k seconds satura
       record {
         grains = n + moved k seconds d * grainsPerMicrogramO;
         is = refl;
-        most = omega (arith, saturation-bound);
+        most = omega (arith, figures .most);
         rising = λ g. (omega arith, omega arith);
         falling = λ g. (omega arith, omega arith);
       }
@@ -142,11 +137,11 @@ module _ (k seconds saturation : ℕ) (figures : airFigureWrong k seconds satura
         falling = λ l. (omega arith, omega arith);
       }
 
-  aired : (x : ℤ) → amountFits (place o2) x ≡ true
+  aired-after : (x : ℤ) → amountFits (place o2) x ≡ true
       → OxygenAfter saturation (natAbs x) (x +ℤ gain k seconds saturation x)
-  aired x e =
-      rw (oxygen-grains x e)
-      at (aired-grains (natAbs x) (oxygen-bound x e) (decLe (levelOf o2 (pos (natAbs x))) saturation))
+  aired-after x e =
+      let grains = oxygen-grains x e in
+      rw (grains .0) at (aired-grains (natAbs x) (grains .1) (decLe (levelOf o2 (pos (natAbs x))) saturation))
 
 -- A river of which check 4 does not hold, a cell that exists, and figures in range.
 module _
@@ -155,9 +150,8 @@ module _
   after : let before = amountAt (r .amounts) (cell - 1) (place o2) in
       OxygenAfter saturation (natAbs before) (airedAmount r (cell - 1) k seconds saturation)
   after =
-      let bound = cell-bound r cell exists in
-      aired k seconds saturation figures (amountAt (r .amounts) (cell - 1) (place o2))
-      (amount-fits-at r right (cell - 1) (place o2) (omega arith) (lit< tt))
+      aired-after k seconds saturation (air-figures k seconds saturation figures)
+      (amountAt (r .amounts) (cell - 1) (place o2)) (amount-known r right cell (place o2) exists (lit< tt) .fits)
 
   -- The O2 after is in its bounds.
   pub air-never-eight : amountFits (place o2) (airedAmount r (cell - 1) k seconds saturation) ≡ true
@@ -172,51 +166,12 @@ module _
   unfolding levelOf
   air-never-past = (after .rising, after .falling)
 
-  -- So air accepts.
-  pub air-accepted : airNumber r cell k seconds saturation ≡ 0
-  unfolding airNumber firstHolding
-  air-accepted = rw (right, exists, figures, air-never-eight)
-
-  -- The answer: the gain is added.
-  pub air-answered : airAnswer r cell k seconds saturation
-      ≡ record {
-        number = 0;
-        river = withAmount r (cell - 1) (place o2) (airedAmount r (cell - 1) k seconds saturation);
-        amount = gainAt r (cell - 1) k seconds saturation;
-      }
-  unfolding airAnswer
-  air-answered = rw air-accepted
-
--- The answer of a refusal, by the first check that holds.
-module _ (r : River) (cell k seconds saturation : ℕ) where
-  abbrev pub refused : ℕ → Aired
-  refused n = record { number = n; river = r; amount = pos 0 }
-
-  pub air-refused-river : riverWrong r ≡ true → airAnswer r cell k seconds saturation ≡ refused 4
-  unfolding airAnswer airNumber firstHolding
-  air-refused-river wrong = rw wrong
-
-  pub air-refused-cell : riverWrong r ≡ false → cellExists r cell ≡ false → airAnswer r cell k seconds saturation ≡ refused 5
-  unfolding airAnswer airNumber firstHolding
-  air-refused-cell right missing = rw (right, missing)
-
-  pub air-refused-figure : riverWrong r ≡ false → cellExists r cell ≡ true → airFigureWrong k seconds saturation ≡ true
-      → airAnswer r cell k seconds saturation ≡ refused 6
-  unfolding airAnswer airNumber firstHolding
-  air-refused-figure right exists wrong = rw (right, exists, wrong)
-
-eight-refuted : (r : River) (cell k seconds saturation : ℕ) (wrong exists figures : Bool) → riverWrong r ≡ wrong
-    → cellExists r cell ≡ exists → airFigureWrong k seconds saturation ≡ figures
-    → airNumber r cell k seconds saturation ≡ 8 → ⊥
-unfolding airNumber firstHolding
-eight-refuted r cell k seconds saturation true exists figures e f g n = omega (arith, rw e at n)
-eight-refuted r cell k seconds saturation false false figures e f g n = omega (arith, rw (e, f) at n)
-eight-refuted r cell k seconds saturation false true true e f g n = omega (arith, rw (e, f, g) at n)
-eight-refuted r cell k seconds saturation false true false e f g n =
-    omega (arith, air-accepted r cell k seconds saturation e f g)
-
--- Whatever it is called with, air never answers 8.
+-- So air is never refused with 8, whatever it is called with.
 pub air-number-eight : (r : River) (cell k seconds saturation : ℕ) → airNumber r cell k seconds saturation ≡ 8 → ⊥
-air-number-eight r cell k seconds saturation n =
-    eight-refuted r cell k seconds saturation (riverWrong r) (cellExists r cell) (airFigureWrong k seconds saturation)
-    refl refl refl n
+unfolding airNumber allOf
+air-number-eight r cell k seconds saturation =
+    first-last
+    (4 when riverWrong r ∷ 5 when not (cellExists r cell) ∷ 6 when airFigureWrong k seconds saturation ∷ []) 8 _
+    (lit< tt) refl
+    (λ none. ap not
+    (air-never-eight r cell k seconds saturation (none .0) (not-false _ (none .1 .0)) (none .1 .1 .0)))

@@ -10,7 +10,8 @@ use Rattle.stoichiometry.specs.Substances.{o2, place, grainsPerMicrogramO}
 use Rattle.stoichiometry.specs.Levels.{levelOf}
 use Rattle.river.specs.declared.River.{River}
 use Rattle.transport.specs.declared.Aired.{Aired}
-use Rattle.river.specs.Rivers.{amountFits, amountAt, riverWrong, cellExists}
+use Rattle.stoichiometry.specs.Totals.{amountAt}
+use Rattle.river.specs.Rivers.{amountFits, riverWrong, cellExists}
 use Rattle.transport.specs.Load.{withAmount}
 use Rattle.stoichiometry.specs.Limits.{mostSeconds, mostSaturation, secondsPerDay}
 
@@ -22,18 +23,28 @@ exchanged k seconds = k * 1000000 * seconds / secondsPerDay
 -- saturation less the level, µg.
 unfoldable pub gain : ℕ → ℕ → ℕ → ℤ → ℤ
 gain k seconds saturation amount =
-    quotZ ((pos saturation -ℤ pos (levelOf o2 amount)) *ℤ pos (exchanged k seconds)) (pos 1000000000) *ℤ pos grainsPerMicrogramO
+    quotZ ((pos saturation -ℤ pos (levelOf o2 amount)) *ℤ pos (exchanged k seconds)) (pos 1000000000)
+    *ℤ pos grainsPerMicrogramO
 
--- The gain of a cell, counted from 0, and its O2 after.
+-- The gain of a cell, counted from 0, its O2 after, and the answer with it.
 abbrev pub gainAt : River → ℕ → ℕ → ℕ → ℕ → ℤ
 gainAt r c k seconds saturation = gain k seconds saturation (amountAt (r .amounts) c (place o2))
 
 abbrev pub airedAmount : River → ℕ → ℕ → ℕ → ℕ → ℤ
 airedAmount r c k seconds saturation = amountAt (r .amounts) c (place o2) +ℤ gainAt r c k seconds saturation
 
+abbrev pub aired : River → ℕ → ℕ → ℕ → ℕ → Aired
+aired r c k seconds saturation =
+    record {
+      number = 0;
+      river = withAmount r c (place o2) (airedAmount r c k seconds saturation);
+      amount = gainAt r c k seconds saturation;
+    }
+
 -- Check 6 of air.
 unfoldable pub airFigureWrong : ℕ → ℕ → ℕ → Bool
-airFigureWrong k seconds saturation = not (leb k 20000 && inRange 1 mostSeconds seconds && leb saturation mostSaturation)
+airFigureWrong k seconds saturation =
+    not (leb k 20000 && inRange 1 mostSeconds seconds && leb saturation mostSaturation)
 
 -- 8 is stated as for every call; a law shows that it never comes.
 unfoldable pub airNumber : River → ℕ → ℕ → ℕ → ℕ → ℕ
@@ -49,6 +60,4 @@ airNumber r cell k seconds saturation =
 unfoldable pub airAnswer : River → ℕ → ℕ → ℕ → ℕ → Aired
 airAnswer r cell k seconds saturation =
     let n = airNumber r cell k seconds saturation in
-    cond (eqb n 0)
-    (record { number = 0; river = withAmount r (cell - 1) (place o2) (airedAmount r (cell - 1) k seconds saturation); amount = gainAt r (cell - 1) k seconds saturation })
-    (record { number = n; river = r; amount = pos 0 })
+    cond (eqb n 0) (aired r (cell - 1) k seconds saturation) (record { number = n; river = r; amount = pos 0 })

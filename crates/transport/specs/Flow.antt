@@ -27,13 +27,21 @@ abbrev pub cameAt : ℕ → List ℤ → ℕ → ℤ
 cameAt n left k =
     cond (ltb k substances) (pos 0) (cond (ltb (k / substances) n) (getD left (k - substances) (pos 0)) (pos 0))
 
--- The amounts after: what stayed and what came.
+-- The amounts after: what stayed and what came; and the answer with them.
 unfoldable pub movedOf : ℕ → List ℤ → List ℤ → List ℤ
 movedOf n amounts left =
     tab (mostCells * substances) (λ k. getD amounts k (pos 0) -ℤ getD left k (pos 0) +ℤ cameAt n left k)
 
 abbrev pub flowedAmounts : ℕ → River → List ℤ
 flowedAmounts part r = movedOf (r .cells) (r .amounts) (leftOf part (r .amounts))
+
+abbrev pub flowed : ℕ → River → Flowed
+flowed part r =
+    record {
+      number = 0;
+      river = record { cells = r .cells; amounts = flowedAmounts part r; carries = r .carries };
+      left = leftOf part (r .amounts);
+    }
 
 -- 8 is stated as for every call; a law shows that it never comes.
 unfoldable pub flowNumber : River → ℕ → ℕ
@@ -48,6 +56,5 @@ flowNumber r part =
 unfoldable pub flowAnswer : River → ℕ → Flowed
 flowAnswer r part =
     let n = flowNumber r part in
-    cond (eqb n 0)
-    (record { number = 0; river = record { cells = r .cells; amounts = flowedAmounts part r; carries = r .carries }; left = leftOf part (r .amounts) })
+    cond (eqb n 0) (flowed part r)
     (record { number = n; river = r; left = replicate (mostCells * substances) (pos 0) })

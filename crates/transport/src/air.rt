@@ -10,6 +10,7 @@ ghost use Rattle.river.specs.Rivers.{amountFits};
 ghost use Rattle.transport.specs.Air.{exchanged, gain, airFigureWrong};
 use crate::Aired;
 use numeric::both;
+use numeric::in_range;
 use stoichiometry::Saturation;
 use stoichiometry::Seconds;
 use stoichiometry::Set;
@@ -23,7 +24,7 @@ const BILLIONTHS: i64 = 1000000000;
 pub(crate) fn figure_wrong(constant: u32, seconds: u32, saturation: u32) -> bool
     ensures { λ r. ⌜ r ≡ airFigureWrong constant seconds saturation ⌝ }
 {
-    let time = both(Seconds::LEAST <= seconds, seconds <= Seconds::MOST);
+    let time = in_range(Seconds::LEAST, Seconds::MOST, seconds);
     let rate = both(constant <= Aired::CONSTANT_MOST, time);
     !both(rate, saturation <= Saturation::MOST)
 }

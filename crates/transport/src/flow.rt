@@ -6,7 +6,7 @@ ghost use lib.IntN.{natAbs, _+ℤ_, _-ℤ_};
 ghost use Rattle.stoichiometry.specs.Substances.{substances, mostNet};
 ghost use Rattle.river.specs.Rivers.{mostCells};
 ghost use Rattle.transport.specs.Flow.{passing, leftOf, movedOf};
-ghost use Rattle.transport.specs.Inner.Stages.{AmountsWithin, SmallAmounts, stayedOf, joinedOf};
+ghost use Rattle.transport.specs.Inner.Stages.{AmountsWithin, stayedOf, joinedOf};
 use crate::Flowed;
 use river::AMOUNTS;
 use stoichiometry::SUBSTANCES;
@@ -14,12 +14,12 @@ use stoichiometry::SUBSTANCES;
 // Parts are ten-thousandths: the most is the whole.
 const WHOLE: u64 = Flowed::PART_MOST as u64;
 
-// The part of a number, rounded down. The number is divided first, since number × part does not fit.
-fn part_of(number: u64, part: u64) -> u64
+// The part of a size, rounded down. The size is divided first, since size × part does not fit.
+fn part_of(size: u64, part: u64) -> u64
     requires { ⌜ part ≤ 10000 ⌝ }
-    ensures { λ r. ⌜ r ≡ number * part / 10000 ⌝ }
+    ensures { λ r. ⌜ r ≡ size * part / 10000 ⌝ }
 {
-    number / WHOLE * part + number % WHOLE * part / WHOLE
+    size / WHOLE * part + size % WHOLE * part / WHOLE
 }
 
 // What passes of one amount, rounded toward zero: the part of its size, with its sign.
@@ -35,7 +35,7 @@ fn passed(amount: i64, part: u64) -> i64
 
 // What leaves each cell.
 pub(crate) fn left_all(amounts: &[i64; AMOUNTS], part: u64) -> [i64; AMOUNTS]
-    requires { ⌜ (part ≤ 10000) × SmallAmounts (now amounts) ⌝ }
+    requires { ⌜ (part ≤ 10000) × AmountsWithin mostNet (now amounts) ⌝ }
     ensures { λ r. ⌜ r ≡ leftOf part (now (amounts .entry)) ⌝ }
 {
     let mut left = [0; AMOUNTS];
@@ -56,7 +56,7 @@ fn less(amount: i64, left: i64) -> i64
 
 // What left is taken from each amount.
 fn take_left(amounts: &mut [i64; AMOUNTS], left: &[i64; AMOUNTS])
-    requires { ⌜ SmallAmounts (now amounts) × SmallAmounts (now left) ⌝ }
+    requires { ⌜ AmountsWithin mostNet (now amounts) × AmountsWithin mostNet (now left) ⌝ }
     ensures { λ _. ⌜ now (amounts .exit) ≡ stayedOf (now (amounts .entry)) (now (left .entry)) ⌝ }
 {
     let mut k = 0;
@@ -75,7 +75,8 @@ fn with(stayed: i64, came: i64) -> i64
 
 // What left a cell comes into the next. Nothing comes into the first cell, nor beyond the last.
 fn add_came(cells: usize, amounts: &mut [i64; AMOUNTS], left: &[i64; AMOUNTS])
-    requires { ⌜ (1 ≤ cells) × (cells ≤ mostCells) × AmountsWithin (2 * mostNet) (now amounts) × SmallAmounts (now left) ⌝ }
+    requires { ⌜ (1 ≤ cells) × (cells ≤ mostCells) ⌝ }
+    requires { ⌜ AmountsWithin (2 * mostNet) (now amounts) × AmountsWithin mostNet (now left) ⌝ }
     ensures { λ _. ⌜ now (amounts .exit) ≡ joinedOf cells (now (amounts .entry)) (now (left .entry)) ⌝ }
 {
     let end = (cells - 1) * SUBSTANCES;
@@ -88,7 +89,8 @@ fn add_came(cells: usize, amounts: &mut [i64; AMOUNTS], left: &[i64; AMOUNTS])
 
 // The amounts after: what stayed and what came.
 pub(crate) fn move_amounts(cells: usize, amounts: &mut [i64; AMOUNTS], left: &[i64; AMOUNTS])
-    requires { ⌜ (1 ≤ cells) × (cells ≤ mostCells) × (length (now amounts) ≡ mostCells * substances) × SmallAmounts (now amounts) × SmallAmounts (now left) ⌝ }
+    requires { ⌜ (1 ≤ cells) × (cells ≤ mostCells) × (length (now amounts) ≡ mostCells * substances) ⌝ }
+    requires { ⌜ AmountsWithin mostNet (now amounts) × AmountsWithin mostNet (now left) ⌝ }
     ensures { λ _. ⌜ now (amounts .exit) ≡ movedOf cells (now (amounts .entry)) (now (left .entry)) ⌝ }
 {
     take_left(amounts, left);

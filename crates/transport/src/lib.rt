@@ -8,15 +8,15 @@ use crate::air::gain_of;
 use crate::flow::left_all;
 use crate::flow::move_amounts;
 use crate::load::amount_at;
-use crate::load::cell_exists;
 use crate::load::set_amount;
-use crate::load::substance_exists;
 use crate::load::sum_fits;
 use numeric::both;
+use numeric::in_range;
 use river::AMOUNTS;
 use river::Changed;
 use river::River;
-use river::river_right;
+use river::river_fits;
+use stoichiometry::SUBSTANCES;
 use stoichiometry::place;
 use stoichiometry::refusal;
 
@@ -49,10 +49,10 @@ impl Aired {
     pub const CONSTANT_MOST: u32 = 20000;
 }
 
-// Adds a number, of either sign, to an amount; the cell and the substance are counted from 1. Refuses with 4, 5 or 8,
-// in this order.
-pub fn load_river(river: River, cell: u32, substance: u32, number: i64) -> Changed
-    ensures answer { λ r. ⌜ r ≡ loadAnswer river cell substance number ⌝ }
+// Changes an amount by `added`, the whole number added, of either sign; the cell and the substance are counted from 1.
+// Refuses with 4, 5 or 8, in this order.
+pub fn load_river(river: River, cell: u32, substance: u32, added: i64) -> Changed
+    ensures answer { λ r. ⌜ r ≡ loadAnswer river cell substance added ⌝ }
 {
     // The answer's river is tested and changed in place: no other copy of it is made.
     let mut answer = Changed {
@@ -60,22 +60,25 @@ pub fn load_river(river: River, cell: u32, substance: u32, number: i64) -> Chang
         river,
     };
     let cells = answer.river.cells;
-    if !river_right(cells, &answer.river.amounts, &answer.river.carries) {
+    if !river_fits(cells, &answer.river.amounts, &answer.river.carries) {
         answer.number = refusal::RIVER;
         return answer;
     }
-    if !both(cell_exists(cells, cell), substance_exists(substance)) {
+    if !both(
+        in_range(1, cells, cell),
+        in_range(1, SUBSTANCES as u32, substance),
+    ) {
         answer.number = refusal::PLACE;
         return answer;
     }
     let c = (cell - 1) as usize;
     let s = (substance - 1) as usize;
     let amount = amount_at(&answer.river.amounts, c, s);
-    if !sum_fits(s, amount, number) {
+    if !sum_fits(s, amount, added) {
         answer.number = refusal::BOUNDS;
         return answer;
     }
-    set_amount(&mut answer.river.amounts, c, s, amount + number);
+    set_amount(&mut answer.river.amounts, c, s, amount + added);
     answer
 }
 
@@ -91,7 +94,7 @@ pub fn flow_river(river: River, part: u32) -> Flowed
         left: [0; AMOUNTS],
     };
     let cells = answer.river.cells;
-    if !river_right(cells, &answer.river.amounts, &answer.river.carries) {
+    if !river_fits(cells, &answer.river.amounts, &answer.river.carries) {
         answer.number = refusal::RIVER;
         return answer;
     }
@@ -118,11 +121,11 @@ pub fn air_river(river: River, cell: u32, constant: u32, seconds: u32, saturatio
         amount: 0,
     };
     let cells = answer.river.cells;
-    if !river_right(cells, &answer.river.amounts, &answer.river.carries) {
+    if !river_fits(cells, &answer.river.amounts, &answer.river.carries) {
         answer.number = refusal::RIVER;
         return answer;
     }
-    if !cell_exists(cells, cell) {
+    if !in_range(1, cells, cell) {
         answer.number = refusal::PLACE;
         return answer;
     }

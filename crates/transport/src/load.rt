@@ -1,34 +1,19 @@
-// Load: a whole number of either sign is added to one amount. Also what other calls on one cell share: whether the cell
-// exists, one amount and its change.
+// Load: a whole number of either sign is added to one amount. Also what calls on one cell share: one amount and its
+// change.
 ghost use mathlib.Core.Path.{_≡_};
-ghost use mathlib.Core.Bool.{_&&_};
 ghost use Prim.Native.Nat.{_+_, _*_, _<_, _≤_};
-ghost use lib.Dec.{leb};
 ghost use lib.ListN.{set};
 ghost use lib.IntN.{natAbs, _+ℤ_};
 ghost use Rattle.stoichiometry.specs.Substances.{substances, mostNet};
-ghost use Rattle.river.specs.Rivers.{mostCells, amountFits, amountAt, substanceExists};
-use numeric::both;
+ghost use Rattle.stoichiometry.specs.Totals.{amountAt};
+ghost use Rattle.river.specs.Rivers.{mostCells, amountFits};
 use river::AMOUNTS;
 use river::River;
-use river::amount_in_bounds;
+use river::amount_fits;
 use stoichiometry::SUBSTANCES;
 
 // The amounts before and after are within River::NET_MOST of 0, so no load is more than twice that, either way.
 const LOAD_MOST: i64 = 2 * River::NET_MOST;
-
-// A cell and a substance by their numbers, counted from 1.
-pub(crate) fn cell_exists(cells: u32, cell: u32) -> bool
-    ensures { λ r. ⌜ r ≡ (leb 1 cell && leb cell cells) ⌝ }
-{
-    both(1 <= cell, cell <= cells)
-}
-
-pub(crate) fn substance_exists(substance: u32) -> bool
-    ensures { λ r. ⌜ r ≡ substanceExists substance ⌝ }
-{
-    both(1 <= substance, substance as usize <= SUBSTANCES)
-}
 
 // Amount s of cell c, both counted from 0; and a new one in its place.
 pub(crate) fn amount_at(amounts: &[i64; AMOUNTS], c: usize, s: usize) -> i64
@@ -47,18 +32,18 @@ pub(crate) fn set_amount(amounts: &mut [i64; AMOUNTS], c: usize, s: usize, x: i6
     amounts[c * SUBSTANCES + s] = x;
 }
 
-// Whether amount + number is in the bounds of the substance at place s. A number that is too large is not added, so
-// that the sum fits 64 bits.
-pub(crate) fn sum_fits(s: usize, amount: i64, number: i64) -> bool
+// Whether amount + added is in the bounds of the substance at place s. What is too large is not added, so that the sum
+// fits 64 bits.
+pub(crate) fn sum_fits(s: usize, amount: i64, added: i64) -> bool
     requires substance { ⌜ s < substances ⌝ }
     requires amount { ⌜ natAbs amount ≤ mostNet ⌝ }
-    ensures { λ r. ⌜ r ≡ amountFits s (amount +ℤ number) ⌝ }
+    ensures { λ r. ⌜ r ≡ amountFits s (amount +ℤ added) ⌝ }
 {
-    if number < -LOAD_MOST {
+    if added < -LOAD_MOST {
         return false;
     }
-    if LOAD_MOST < number {
+    if LOAD_MOST < added {
         return false;
     }
-    amount_in_bounds(s, amount + number)
+    amount_fits(s, amount + added)
 }

@@ -3,9 +3,9 @@
 use river::AMOUNTS;
 use river::CARRIES;
 use river::River;
-use river::Totals;
 use stoichiometry::SUBSTANCES;
 use stoichiometry::Set;
+use totals::Totals;
 use totals::totals_of;
 
 // No total of the walk is further from 0 than this, grains.

@@ -1,7 +1,7 @@
 // What is written of an answer, and of six totals.
 use libc::STDOUT_FILENO;
 use numeric::magnitude;
-use river::Totals;
+use totals::Totals;
 
 pub(crate) fn write_number(number: u32) {
     io::print_decimal(STDOUT_FILENO, number as u64);

@@ -6,11 +6,7 @@ use Rattle.kinetics.proofs.conditions_wrong.Tie as tie
 
 returns : tie.Need-returns
 unfolding conditionsWrong
-returns c =
-    let fitted = c .before in
-    let second = fitted .before in
-    let first = second .before .before in
-    rw (c .both3 .ensures, fitted .temperatures-fit .ensures, second .both2 .ensures, first .both .ensures)
+returns c = cc
 
 pub conditions-wrong-spec : {M : Type 1} → statement M
 conditions-wrong-spec =

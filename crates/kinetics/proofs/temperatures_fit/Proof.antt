@@ -6,12 +6,9 @@ use Rattle.kinetics.proofs.temperatures_fit.Tie as tie
 
 returns : tie.Need-returns
 unfolding temperaturesFit
-returns c =
-    let third = c .before .before in
-    let second = third .before .before in
-    let first = second .before .before in
-    rw (c .both4 .ensures, third .both3 .ensures, second .both2 .ensures, first .both .ensures)
+returns c = cc
 
 pub temperatures-fit-spec : {M : Type 1} → statement M
 temperatures-fit-spec =
-    tie.close (tie.spec (λ c κs. search needs) (λ c κs. search needs) (λ c κs. search needs) (λ c κs. search needs) returns)
+    tie.close
+    (tie.spec (λ c κs. search needs) (λ c κs. search needs) (λ c κs. search needs) (λ c κs. search needs) returns)

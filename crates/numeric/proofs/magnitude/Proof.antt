@@ -36,18 +36,6 @@ module _ (c : tie.Else1) where
   same : c .before .args .value ≡ pos (natAbs (c .before .args .value))
   same = not-below (c .before .args .value) (c .before .fits .value) (c .if1 .left)
 
-add-result : tie.Need-add-result
-add-result c = less-add (value c) (c .before .fits .value) (c .if1 .taken)
-
-sub-result : tie.Need-sub-result
-sub-result c = fits (less (value c)) (known c .0) (known c .1) (known c .3)
-
-cast-result : tie.Need-cast-result
-cast-result c = cast _ (known c .0) (there c) (known c .3)
-
-add-result-2 : tie.Need-add-result-2
-add-result-2 c = rw (there c) (record { fits = let h = known c .3 in omega arith })
-
 cast-result-2 : tie.Need-cast-result-2
 cast-result-2 c =
     let z = c .before .args .value in
@@ -60,4 +48,11 @@ returns c = rw (there c) (add-one (known c .0) ∙ sym (known c .2))
 pub magnitude-spec : {M : Type 1} → statement M
 magnitude-spec =
     tie.close
-    (tie.spec add-result sub-result cast-result add-result-2 cast-result-2 returns (λ c. search needs))
+    (tie.spec
+    (λ c. less-add (value c) (c .before .fits .value) (c .if1 .taken))
+    (λ c. fits (less (value c)) (known c .0) (known c .1) (known c .3))
+    (λ c. cast _ (known c .0) (there c) (known c .3))
+    (λ c. rw (there c) (record { fits = let h = known c .3 in omega arith }))
+    cast-result-2
+    returns
+    (λ c. search needs))

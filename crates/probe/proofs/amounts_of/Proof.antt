@@ -16,9 +16,6 @@ returns c =
     let start = c .before .before in
     c .refused .ensures ∙ sym (saturation-refused (start .args .frame) (start .args .saturation) (lt-ltb _ _ (c .before .if1 .taken)))
 
-amounts-requires : tie.Need-amounts-requires
-amounts-requires c κs = (fits c, c .before .before .if1 .left)
-
 returns-2 : tie.Need-returns-2
 returns-2 c =
     let then = c .before in
@@ -41,7 +38,7 @@ amounts-of-spec =
     (λ c κs. search needs)
     returns
     (λ c κs. search needs)
-    amounts-requires
+    (λ c κs. (fits c, c .before .before .if1 .left))
     (λ c κs. search needs)
     returns-2
     returns-3)

@@ -10,30 +10,30 @@ use borrow.Author.Needs.{needs}
 use Rattle.record_reading.proofs.lines_of_cell.Statement.{statement}
 use Rattle.record_reading.proofs.lines_of_cell.Tie as tie
 
-number : (c : tie.Then1) → cellNumber (c .before .before .before .args .text .now) (c .before .before .before .args .cell) ≡ 0
+-- The start, from the call for the number, which is 0.
+abbrev begun : tie.After-number-of-cell → tie.Start
+begun c = c .before .before
+
+number : (c : tie.Then1) → cellNumber (begun (c .before) .args .text .now) (begun (c .before) .args .cell) ≡ 0
 number c = sym (c .before .number-of-cell .ensures) ∙ c .if1 .taken
 
 within : (c : tie.Then1)
-    → (1 ≤ c .before .before .before .args .cell) × ((c .before .before .before .args .cell - 1) * cellBytes + cellBytes ≤ length (c .before .before .before .args .text .now))
-within c = let args = c .before .before .before .args in cell-within (args .text .now) (args .cell) (number c)
-
-sub-start : tie.Need-sub-start
-sub-start c = within c .0
-
-part-result-end : tie.Need-part-result-end
-part-result-end c = within c .1
+    → let args = begun (c .before) .args in
+    (1 ≤ args .cell) × ((args .cell - 1) * cellBytes + cellBytes ≤ length (args .text .now))
+within c = let args = begun (c .before) .args in cell-within (args .text .now) (args .cell) (number c)
 
 returns : tie.Need-returns
 returns c =
-    let args = c .before .before .before .before .args in
+    let args = begun (c .before .before) .args in
     let start = (args .cell - 1) * cellBytes in
     let width : start + cellBytes - start ≡ cellBytes = omega arith in
-    ap (λ (n : ℕ). take n (drop start (args .text .now))) width ∙ sym (lines-accepted (args .text .now) (args .cell) (number (c .before)))
+    ap (λ (n : ℕ). take n (drop start (args .text .now))) width
+    ∙ sym (lines-accepted (args .text .now) (args .cell) (number (c .before)))
 
 returns-2 : tie.Need-returns-2
 returns-2 c =
     let called = c .before .before in
-    let args = called .before .before .args in
+    let args = begun called .args in
     sym (lines-none (args .text .now) (args .cell) (λ z. c .before .if1 .left (called .number-of-cell .ensures ∙ z)))
 
 pub lines-of-cell-spec : {M : Type 1} → statement M
@@ -41,15 +41,9 @@ lines-of-cell-spec =
     tie.close
     (tie.spec
     (λ c κs. search needs)
-    sub-start
-    (λ c. search needs)
-    (λ c. search needs)
-    (λ c. search needs)
-    (λ c. search needs)
-    (λ c. search needs)
-    part-result-end
+    (λ c. within c .0)
+    (λ c. search needs) (λ c. search needs) (λ c. search needs) (λ c. search needs) (λ c. search needs)
+    (λ c. within c .1)
     returns
-    (λ c. search needs)
-    (λ c. search needs)
-    (λ c. search needs)
+    (λ c. search needs) (λ c. search needs) (λ c. search needs)
     returns-2)

@@ -8,26 +8,10 @@ use lib.IntN.{ℤ, natAbs}
 use mir.Facts.{toZ-ofZ}
 use Rattle.text.specs.Writes.{put}
 use Rattle.text.specs.Decimals.{plain, markOf, decimal}
-use Rattle.text.proofs.WriteLaws.{put-within-refused}
-use Rattle.text.proofs.DecimalLaws.{decimal-length, decimal-within, plain-none}
+use Rattle.text.proofs.WriteLaws.{put-within, put-refused}
+use Rattle.text.proofs.DecimalLaws.{decimal-length, plain-none}
 use Rattle.text.proofs.write_decimal.Statement.{statement}
 use Rattle.text.proofs.write_decimal.Tie as tie
-
--- `at` is past the end.
-returns : tie.Need-returns
-returns c =
-    let args = c .before .before .args in
-    sym
-    (put-within-refused (args .out .now) (args .at) (decimal (args .width) (args .value))
-    (omega (arith, decimal-length (args .width) (args .value))))
-
--- Not all columns are there.
-returns-2 : tie.Need-returns-2
-returns-2 c =
-    let args = c .before .before .before .args in
-    sym
-    (put-within-refused (args .out .now) (args .at) (decimal (args .width) (args .value))
-    (omega (arith, decimal-length (args .width) (args .value))))
 
 -- Written.
 returns-3 : tie.Need-returns-3
@@ -36,35 +20,34 @@ returns-3 c =
     let at-plain = c .before .before in
     let at-magnitude = at-plain .before in
     let at-mark = at-magnitude .before in
-    let at-start = at-mark .before .before .before .before .before .before in
+    let in-width = at-mark .before .before in
+    let at-start = in-width .before .before .before .before in
     let args = at-start .args in
     let l = args .out .now in
     at-plain .write-plain .ensures
     ∙ ap₂ (λ (m n : ℕ). put l (args .at) (plain (args .width) m n))
     (at-mark .mark-of .ensures) (at-magnitude .magnitude .ensures)
     ∙ ap (λ (z : ℤ). put l (args .at) (plain (args .width) (markOf z) (natAbs z))) (toZ-ofZ (at-start .fits .value))
-    ∙ sym (decimal-within l (args .at) (args .width) (args .value) (omega arith))
+    ∙ sym (put-within l (args .at) (args .width) _ (decimal-length (args .width) (args .value)) (omega arith))
 
 -- No columns.
 returns-4 : tie.Need-returns-4
 unfolding decimal
 returns-4 c =
     let args = c .before .before .before .before .args in
-    let z = args .value in
     sym
-    (decimal-within (args .out .now) (args .at) (args .width) z (omega arith)
-    ∙ plain-none (args .out .now) (args .at) (args .width) (markOf z) (natAbs z) (omega arith))
+    (put-within _ (args .at) (args .width) _ (decimal-length (args .width) (args .value)) (omega arith)
+    ∙ plain-none (args .out .now) (args .at) (args .width) _ _ (omega arith))
 
 pub write-decimal-spec : {M : Type 1} → statement M
 write-decimal-spec =
     tie.close
     (tie.spec
-    returns
+    -- `at` is past the end.
+    (λ c. sym (put-refused _ _ _ _ (decimal-length _ (c .before .before .args .value)) (omega arith)))
     (λ c. search needs)
-    returns-2
-    (λ c κs. search needs)
-    (λ c κs. search needs)
-    (λ c κs. search needs)
-    (λ c. search needs)
+    -- Not all columns are there.
+    (λ c. sym (put-refused _ _ _ _ (decimal-length _ (c .before .before .before .args .value)) (omega arith)))
+    (λ c κs. search needs) (λ c κs. search needs) (λ c κs. search needs) (λ c. search needs)
     returns-3
     returns-4)

@@ -1,50 +1,32 @@
--- `write_two` meets its contract: the tens or a blank, then the ones. No assumptions.
+-- `write_two` meets its contract: two stores where both columns are there. No assumptions.
 use mathlib.Core.Path.{sym, _∙_}
 use native.Mathlib.Omega.{arith}
 use borrow.Author.Needs.{needs}
 use lib.ListN.{length-set}
-use Rattle.text.specs.Decimals.{plain}
-use Rattle.text.proofs.WriteLaws.{put-within-refused}
-use Rattle.text.proofs.DecimalLaws.{plain-length, plain-within, plain-two}
+use Rattle.text.specs.Decimals.{columns, plain}
+use Rattle.text.proofs.WriteLaws.{two-stored, put-within, put-refused}
+use Rattle.text.proofs.DecimalLaws.{plain-length}
 use Rattle.text.proofs.write_two.Statement.{statement}
 use Rattle.text.proofs.write_two.Tie as tie
 
--- `at` is past the end.
-returns : tie.Need-returns
-returns c =
-    let args = c .before .before .args in
-    let n = args .n in
-    sym (put-within-refused (args .out .now) (args .at) (plain 2 32 n) (omega (arith, plain-length 2 32 n)))
-
--- Not both columns are there.
-returns-2 : tie.Need-returns-2
-returns-2 c =
-    let args = c .before .before .before .args in
-    let n = args .n in
-    sym (put-within-refused (args .out .now) (args .at) (plain 2 32 n) (omega (arith, plain-length 2 32 n)))
-
-slice-write-out-2 : tie.Need-slice-write-out-2
-slice-write-out-2 c = simp length-set (omega arith)
-
 returns-3 : tie.Need-returns-3
+unfolding columns plain
 returns-3 c =
     let args = c .before .before .before .before .args in
-    plain-two (args .out .now) (args .at) (args .n) (c .glyph .result) (omega arith) (c .glyph .ensures)
-    ∙ sym (plain-within (args .out .now) (args .at) 2 32 (args .n) (omega arith))
+    let two = plain-length 2 32 (args .n) in
+    rw (c .two-columns .ensures)
+    (two-stored (args .out .now) (args .at) _ _ (omega arith) ∙ sym (put-within _ (args .at) 2 _ two (omega arith)))
 
 pub write-two-spec : {M : Type 1} → statement M
 write-two-spec =
     tie.close
     (tie.spec
-    returns
+    -- `at` is past the end.
+    (λ c. sym (put-refused _ _ 2 _ (plain-length 2 32 _) (omega arith)))
     (λ c. search needs)
-    returns-2
-    (λ c. search needs)
-    (λ c. search needs)
-    (λ c κs. search needs)
-    (λ c. search needs)
-    (λ c. search needs)
-    (λ c. search needs)
-    slice-write-out-2
+    -- Not both columns are there.
+    (λ c. sym (put-refused _ _ 2 _ (plain-length 2 32 _) (omega arith)))
+    (λ c κs. search needs) (λ c. search needs) (λ c. search needs) (λ c. search needs) (λ c. search needs)
+    (λ c. simp length-set (omega arith))
     (λ c. search needs)
     returns-3)

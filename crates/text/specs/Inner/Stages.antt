@@ -1,5 +1,5 @@
--- What the inner functions of the writer hand to each other: that columns are still blank, digits by twos and fours, and
--- bytes as one number. Laws: proofs/DecimalLaws.antt, proofs/FourLaws.antt. No assumptions.
+-- What the inner functions of the writer hand to each other: that columns are still blank, digits by twos and fours,
+-- and bytes as one number. Laws: proofs/DecimalLaws.antt, proofs/FourLaws.antt. No assumptions.
 use Prim.Native.Nat.{ℕ, _+_, _*_, _/_, _%_, _<_}
 use mathlib.Core.List.{List, [], _∷_, _++_}
 use mathlib.Core.Path.{_≡_}

@@ -1,5 +1,5 @@
--- How the code adds up what a cell holds: totals by number, one list of weights for each, and the bounds that keep a
--- sum within 64 bits. Inner definitions that nobody need believe: proofs/TotalsLaws.antt ties them to Cells.antt.
+-- How the code adds up what a cell holds: totals by place, one list of weights for each, and the bounds that keep a
+-- sum within 64 bits. Inner definitions that nobody need believe: proofs/TotalsLaws.antt ties them to Totals.antt.
 -- No assumptions.
 use Prim.Native.Nat.{ℕ, _+_, _*_, _≤_, _<_}
 use mathlib.Core.List.{List, [], _∷_, map}
@@ -7,9 +7,10 @@ use lib.ListN.{getD}
 use lib.IntN.{ℤ, pos, natAbs, _*ℤ_}
 use Rattle.numeric.specs.Sum.{sum}
 use Rattle.stoichiometry.specs.declared.Set.{Set}
-use Rattle.stoichiometry.specs.Substances.{substances, Substance, organic, nh4, no2, no3, hpo4, o2, hco3, hPlus, xp, h2o, n2, order, Composition, compositionOf}
-use Rattle.river.specs.declared.Totals.{Totals}
-use Rattle.river.specs.Rivers.{highest}
+use Rattle.stoichiometry.specs.Substances.{Substance, organic, nh4, no2, no3, hpo4, o2, hco3, hPlus, xp, h2o, n2}
+use Rattle.stoichiometry.specs.Substances.{substances, order, Composition, compositionOf}
+use Rattle.river.specs.Rivers.{highestAt}
+use Rattle.totals.specs.declared.Totals.{Totals}
 
 -- A composition as a list: at t stands total t, 0 to 5.
 abbrev pub parts : Composition → List ℤ
@@ -65,12 +66,12 @@ heaviest n2 = 2
 
 -- The most that an amount at place s holds of any total.
 unfoldable pub mostHeld : ℕ → ℕ
-mostHeld s = getD (map (λ x. natAbs (highest x) * heaviest x) order) s 0
+mostHeld s = natAbs (highestAt s) * getD (map heaviest order) s 0
 
 -- What each amount of a cell holds is in its bounds.
-pub record Addable (amounts : List ℤ) (start : ℕ) (weights : List ℤ) : Type 0 where
+pub record AddableAmounts (amounts : List ℤ) (start : ℕ) (weights : List ℤ) : Type 0 where
   pub within : (s : ℕ) → s < substances → natAbs (heldBy amounts start weights s) ≤ mostHeld s
 
 -- The same of every total.
-pub record AllAddable (set : Set) (amounts : List ℤ) (start : ℕ) : Type 0 where
-  pub total : (t : ℕ) → t < 6 → Addable amounts start (weightsOf set t)
+pub record AddableTotals (set : Set) (amounts : List ℤ) (start : ℕ) : Type 0 where
+  pub total : (t : ℕ) → t < 6 → AddableAmounts amounts start (weightsOf set t)

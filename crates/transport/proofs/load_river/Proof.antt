@@ -1,174 +1,126 @@
 -- `load_river` meets its contract: each return is one case of the checks in their order; a river of which check 4
 -- does not hold has the amount in its bounds. No assumptions.
-use Prim.Native.Nat.{_-_, _≤_}
+use Prim.Native.Nat.{_-_, _≤_, _<_}
 use native.Mathlib.Omega.{arith}
 use mathlib.Core.Bool.{true, false, not, _&&_}
 use mathlib.Core.Path.{_≡_, sym, _∙_}
 use borrow.Author.Needs.{needs}
 use borrow.Author.Tests.{not-true, not-false}
-use lib.IntN.{ℤ, natAbs, _+ℤ_}
+use lib.IntN.{ℤ, _+ℤ_}
 use mir.Syntax.{w64}
 use mir.Val.{SFits}
 use mir.Facts.{toZ-ofZ}
+use Rattle.numeric.specs.Check.{firstHolding}
 use Rattle.numeric.proofs.Bounds.{fits-abs}
-use Rattle.numeric.proofs.Machine.{kept}
 use Rattle.numeric.proofs.CheckLaws.{and-left, and-right}
-use Rattle.stoichiometry.specs.Substances.{substances, mostNet}
-use Rattle.river.specs.Rivers.{mostCells, amountFits, amountAt, riverWrong, cellExists, substanceExists}
+use Rattle.stoichiometry.specs.Substances.{substances}
+use Rattle.river.specs.Rivers.{amountFits, riverWrong, cellExists, substanceExists}
 use Rattle.river.proofs.Bounds.{fits-bound}
-use Rattle.river.proofs.Rivers.{wrong-tested, river-cells, amount-fits-at, cell-bound, substance-bound}
-use Rattle.transport.proofs.LoadLaws.{load-refused-river, load-refused-place, load-refused-sum, load-answered}
+use Rattle.river.proofs.Rivers.{AmountKnown, wrong-tested, amount-known, substance-bound}
+use Rattle.transport.specs.Load.{loadedAmount, loadNumber, loadAnswer}
 use Rattle.transport.proofs.load_river.Statement.{statement}
 use Rattle.transport.proofs.load_river.Tie as tie
 
-abbrev begun : tie.After-river-right → tie.Start
+abbrev begun : tie.After-river-fits → tie.Start
 begun c = c .before .before .before .before
 
-wrong : (c : tie.After-river-right) → riverWrong (begun c .args .river) ≡ not (c .river-right .result)
-wrong c = wrong-tested (begun c .args .river) _ (c .river-right .ensures)
+wrong : (c : tie.After-river-fits) → riverWrong (begun c .args .river) ≡ not (c .river-fits .result)
+wrong c = wrong-tested (begun c .args .river) _ (c .river-fits .ensures)
 
 right : (c : tie.Else1) → riverWrong (begun (c .before) .args .river) ≡ false
 right c = wrong (c .before) ∙ c .if1 .left
 
--- From here on check 4 does not hold, and the cell and the substance exist.
+-- The test of the cell and the substance.
+tested : (c : tie.After-both) → let a = begun (c .before .before .before .before) .args in
+    c .both .result ≡ cellExists (a .river) (a .cell) && substanceExists (a .substance)
+tested c = rw (c .both .ensures, c .before .in-range2 .ensures, c .before .before .in-range .ensures)
+
+-- Past it check 4 does not hold, and the cell and the substance exist.
+abbrev passed : tie.Else2 → tie.Else1
+passed c = c .before .before .before .before
+
 abbrev start : tie.Else2 → tie.Start
-start c = begun (c .before .before .before .before .before)
+start c = begun (passed c .before)
 
-exist : (c : tie.Else2)
-    → cellExists (start c .args .river) (start c .args .cell) && substanceExists (start c .args .substance) ≡ true
-unfolding cellExists
-exist c =
-    let at-substance = c .before .before in
-    let at-cell = at-substance .before in
-    rw (← at-cell .cell-exists .ensures, ← at-substance .substance-exists .ensures, ← c .before .both .ensures)
-    (not-false _ (c .if2 .left))
+exist : (c : tie.Else2) → let a = start c .args in
+    cellExists (a .river) (a .cell) && substanceExists (a .substance) ≡ true
+exist c = sym (tested (c .before)) ∙ not-false _ (c .if2 .left)
 
-cell-known : (c : tie.Else2) → (1 ≤ start c .args .cell) × (start c .args .cell ≤ start c .args .river .cells)
-cell-known c =
+at-substance : (c : tie.Else2) → (1 ≤ start c .args .substance) × (start c .args .substance - 1 < substances)
+at-substance c =
     let a = start c .args in
-    cell-bound (a .river) (a .cell) (and-left _ (substanceExists (a .substance)) (exist c))
-
-cells-known : (c : tie.Else2) → start c .args .river .cells ≤ mostCells
-cells-known c = river-cells (start c .args .river) (right (c .before .before .before .before)) .1
-
-substance-known : (c : tie.Else2) → (1 ≤ start c .args .substance) × (start c .args .substance ≤ substances)
-substance-known c =
-    let a = start c .args in
-    substance-bound (a .substance) (and-right (cellExists (a .river) (a .cell)) _ (exist c))
+    let bound = substance-bound (a .substance) (and-right (cellExists (a .river) (a .cell)) _ (exist c)) in
+    (bound .0, omega arith)
 
 -- The amount before.
-abbrev amount : tie.Else2 → ℤ
-amount c = amountAt (start c .args .river .amounts) (start c .args .cell - 1) (start c .args .substance - 1)
-
-amount-small : (c : tie.Else2) → natAbs (amount c) ≤ mostNet
-amount-small c =
+known : (c : tie.Else2) → let a = start c .args in AmountKnown (a .river) (a .cell) (a .substance - 1)
+known c =
     let a = start c .args in
-    let cell = cell-known c in
-    let substance = substance-known c in
-    let at-river = c .before .before .before .before in
-    fits-bound (a .substance - 1) (amount c) (omega arith)
-    (amount-fits-at (a .river) (right at-river) (a .cell - 1) (a .substance - 1) (omega arith) (omega arith))
+    let exists = and-left _ (substanceExists (a .substance)) (exist c) in
+    amount-known (a .river) (right (passed c)) (a .cell) (a .substance - 1) exists (at-substance c .1)
 
-amount-kept : (c : tie.Else2) → kept (amount c) ≡ amount c
-amount-kept c = toZ-ofZ (fits-abs (amount c) (omega (arith, amount-small c)))
+-- The amount after.
+abbrev loaded : tie.Else2 → ℤ
+loaded c = let a = start c .args in loadedAmount (a .river) (a .cell) (a .substance) (a .added)
 
--- What `sum_fits` answered.
-tested : (c : tie.After-sum-fits) → let at-checks = c .before .before .before .before in
-    c .sum-fits .result ≡ amountFits (start at-checks .args .substance - 1) (amount at-checks +ℤ start at-checks .args .number)
-tested c =
-    let at-checks = c .before .before .before .before in
-    rw (c .before .amount-at .ensures, amount-kept at-checks, toZ-ofZ (start at-checks .fits .number)) at (c .sum-fits .ensures)
+-- What `sum_fits` answered; where the sum is in its bounds it fits 64 bits.
+abbrev at-checks : tie.After-sum-fits → tie.Else2
+at-checks c = c .before .before .before .before
 
--- The sum is in its bounds, so it fits 64 bits.
-sum-fits : (c : tie.Else3) → let at-checks = c .before .before .before .before .before in
-    SFits w64 (amount at-checks +ℤ start at-checks .args .number)
-sum-fits c =
-    let at-checks = c .before .before .before .before .before in
-    let a = start at-checks .args in
-    let in-bounds = sym (tested (c .before)) ∙ not-false _ (c .if3 .left) in
-    let substance = substance-known at-checks in
-    fits-abs _ (omega (arith, fits-bound (a .substance - 1) (amount at-checks +ℤ a .number) (omega arith) in-bounds))
+summed : (c : tie.After-sum-fits)
+    → c .sum-fits .result ≡ amountFits (start (at-checks c) .args .substance - 1) (loaded (at-checks c))
+summed c =
+    rw (c .before .amount-at .ensures, known (at-checks c) .same, toZ-ofZ (start (at-checks c) .fits .added))
+    at (c .sum-fits .ensures)
+
+in-bounds : (c : tie.Else3)
+    → amountFits (start (at-checks (c .before)) .args .substance - 1) (loaded (at-checks (c .before))) ≡ true
+in-bounds c = sym (summed (c .before)) ∙ not-false _ (c .if3 .left)
+
+sum-fits : (c : tie.Else3) → SFits w64 (loaded (at-checks (c .before)))
+sum-fits c = fits-abs _ (omega (arith, fits-bound _ _ (at-substance (at-checks (c .before)) .1) (in-bounds c)))
 
 -- Refused by 4.
 returns : tie.Need-returns
-returns c =
-    let a = begun (c .before) .args in
-    sym (load-refused-river (a .river) (a .cell) (a .substance) (a .number) (wrong (c .before) ∙ c .if1 .taken))
-
-missing : (c : tie.Then2) → let a = begun (c .before .before .before .before .before) .args in
-    cellExists (a .river) (a .cell) && substanceExists (a .substance) ≡ false
-unfolding cellExists
-missing c =
-    let at-both = c .before in
-    let at-substance = at-both .before in
-    rw (← at-substance .before .cell-exists .ensures, ← at-substance .substance-exists .ensures, ← at-both .both .ensures)
-    (not-true _ (c .if2 .taken))
+unfolding loadAnswer loadNumber firstHolding
+returns c = rw (wrong (c .before) ∙ c .if1 .taken)
 
 -- Refused by 5.
 returns-2 : tie.Need-returns-2
+unfolding loadAnswer loadNumber firstHolding
 returns-2 c =
-    let known = c .before .before .before .before in
-    let a = begun (known .before) .args in
-    sym (load-refused-place (a .river) (a .cell) (a .substance) (a .number) (right known) (missing c))
-
-sub-c : tie.Need-sub-c
-sub-c c = cell-known c .0
-
-sub-s : tie.Need-sub-s
-sub-s c = substance-known c .0
-
-amount-at-requires : tie.Need-amount-at-requires
-amount-at-requires c κs =
-    let at-checks = c .before .before in
-    let cell = cell-known at-checks in
-    let cells = cells-known at-checks in
-    let substance = substance-known at-checks in
-    (omega arith, omega arith)
-
-sum-fits-requires : tie.Need-sum-fits-requires
-sum-fits-requires c κs =
-    let at-checks = c .before .before .before in
-    let substance = substance-known at-checks in
-    (omega arith, rw (c .amount-at .ensures, amount-kept at-checks) (amount-small at-checks))
+    let river-right = right (c .before .before .before .before) in
+    rw (river-right, sym (tested (c .before)) ∙ not-true _ (c .if2 .taken))
 
 -- Refused by 8.
 returns-3 : tie.Need-returns-3
+unfolding loadAnswer loadNumber firstHolding
 returns-3 c =
-    let at-checks = c .before .before .before .before .before in
-    let a = start at-checks .args in
-    sym (load-refused-sum (a .river) (a .cell) (a .substance) (a .number)
-    (right (at-checks .before .before .before .before)) (exist at-checks)
-    (sym (tested (c .before)) ∙ not-true _ (c .if3 .taken)))
+    let at = at-checks (c .before) in
+    rw (right (passed at), exist at, sym (summed (c .before)) ∙ not-true _ (c .if3 .taken))
 
 add-set-amount : tie.Need-add-set-amount
 add-set-amount c =
-    let at-checks = c .before .before .before .before .before .before in
-    rw (c .before .before .before .amount-at .ensures, amount-kept at-checks, toZ-ofZ (start at-checks .fits .number)) (sum-fits (c .before))
+    let at-sum = c .before .before in
+    let at = at-checks at-sum in
+    rw (at-sum .before .amount-at .ensures, known at .same, toZ-ofZ (start at .fits .added)) (sum-fits (c .before))
 
-set-amount-requires : tie.Need-set-amount-requires
-set-amount-requires c κs =
-    let at-checks = c .before .before .before .before .before .before in
-    let cell = cell-known at-checks in
-    let cells = cells-known at-checks in
-    let substance = substance-known at-checks in
-    (omega arith, omega arith)
-
--- The number is added.
+-- The amount is changed.
 returns-4 : tie.Need-returns-4
+unfolding loadAnswer loadNumber firstHolding
 returns-4 c =
-    let at-sum = c .before .before .before in
-    let at-checks = at-sum .before .before .before .before in
-    let a = start at-checks .args in
+    let left = c .before .before in
+    let at = at-checks (left .before) in
     rw (
       c .set-amount .ensures,
-      at-sum .before .amount-at .ensures,
-      amount-kept at-checks,
-      toZ-ofZ (start at-checks .fits .number),
-      toZ-ofZ (sum-fits (c .before .before)),
+      left .before .before .amount-at .ensures,
+      known at .same,
+      toZ-ofZ (start at .fits .added),
+      toZ-ofZ (sum-fits left),
+      right (passed at),
+      exist at,
+      in-bounds left,
     )
-    (sym (load-answered (a .river) (a .cell) (a .substance) (a .number)
-    (right (at-checks .before .before .before .before)) (exist at-checks)
-    (sym (tested at-sum) ∙ not-false _ (c .before .before .if3 .left))))
 
 pub load-river-spec : {M : Type 1} → statement M
 load-river-spec =
@@ -176,17 +128,16 @@ load-river-spec =
     (tie.spec
     (λ c κs. search needs)
     returns
-    (λ c κs. search needs)
-    (λ c κs. search needs)
-    (λ c κs. search needs)
+    (λ c κs. search needs) (λ c. search needs) (λ c κs. search needs) (λ c κs. search needs)
     returns-2
-    sub-c
+    (λ c. known c .first)
     (λ c. search needs)
-    sub-s
+    (λ c. at-substance c .0)
     (λ c. search needs)
-    amount-at-requires
-    sum-fits-requires
+    (λ c κs. (known (c .before .before) .below, at-substance (c .before .before) .1))
+    (λ c κs. let at = c .before .before .before in
+    (at-substance at .1, rw (c .amount-at .ensures, known at .same) (known at .small)))
     returns-3
     add-set-amount
-    set-amount-requires
+    (λ c κs. let at = at-checks (c .before .before) in (known at .below, at-substance at .1))
     returns-4)

@@ -9,18 +9,6 @@ use Rattle.probe.proofs.frames.amounts.Tie as tie
 fitting : (c : tie.Start) → Fitting (c .args .frame)
 fitting c = frame-fits (c .args .frame) (c .pre .0)
 
-grains-requires : tie.Need-grains-requires
-grains-requires c κs = (fitting c .ammonium, lit≤ tt, lit≤ tt, lit≤ tt)
-
-grains-requires-2 : tie.Need-grains-requires-2
-grains-requires-2 c κs = (fitting (c .before) .nitrite, lit≤ tt, lit≤ tt, lit≤ tt)
-
-grains-requires-3 : tie.Need-grains-requires-3
-grains-requires-3 c κs = (fitting (c .before .before) .nitrate, lit≤ tt, lit≤ tt, lit≤ tt)
-
-grains-requires-4 : tie.Need-grains-requires-4
-grains-requires-4 c κs = (fitting (c .before .before .before) .phosphate, lit≤ tt, lit≤ tt, lit≤ tt)
-
 oxygen-amount-requires : tie.Need-oxygen-amount-requires
 oxygen-amount-requires c κs =
     let start = c .before .before .before .before in
@@ -45,9 +33,9 @@ pub amounts-spec : {M : Type 1} → statement M
 amounts-spec =
     tie.close
     (tie.spec
-    grains-requires
-    grains-requires-2
-    grains-requires-3
-    grains-requires-4
+    (λ c κs. ((fitting c .ammonium, lit≤ tt, lit≤ tt), lit≤ tt))
+    (λ c κs. ((fitting (c .before) .nitrite, lit≤ tt, lit≤ tt), lit≤ tt))
+    (λ c κs. ((fitting (c .before .before) .nitrate, lit≤ tt, lit≤ tt), lit≤ tt))
+    (λ c κs. ((fitting (c .before .before .before) .phosphate, lit≤ tt, lit≤ tt), lit≤ tt))
     oxygen-amount-requires
     returns)

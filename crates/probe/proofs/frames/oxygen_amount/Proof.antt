@@ -10,11 +10,16 @@ use borrow.Author.Needs.{needs}
 use Rattle.probe.proofs.frames.oxygen_amount.Statement.{statement}
 use Rattle.probe.proofs.frames.oxygen_amount.Tie as tie
 
+-- The reading fits, by its kind.
 grains-requires : tie.Need-grains-requires
-grains-requires c κs = (ap oxygenFits (sym (c .before .oxygen .given .1)) ∙ c .before .before .before .pre .0, lit≤ tt, lit≤ tt, lit≤ tt)
+grains-requires c κs =
+    let start = c .before .before .before in
+    ((ap oxygenFits (sym (c .before .oxygen .given .1)) ∙ start .pre .0, lit≤ tt, lit≤ tt), lit≤ tt)
 
 grains-requires-2 : tie.Need-grains-requires-2
-grains-requires-2 c κs = (ap oxygenFits (sym (c .before .oxygen2 .given .1)) ∙ c .before .before .before .pre .0, c .before .before .before .pre .1, lit≤ tt, lit≤ tt)
+grains-requires-2 c κs =
+    let start = c .before .before .before in
+    ((ap oxygenFits (sym (c .before .oxygen2 .given .1)) ∙ start .pre .0, start .pre .1, lit≤ tt), lit≤ tt)
 
 returns : tie.Need-returns
 returns c =

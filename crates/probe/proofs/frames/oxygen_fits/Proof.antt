@@ -15,11 +15,7 @@ pub oxygen-fits-spec : {M : Type 1} → statement M
 oxygen-fits-spec =
     tie.close
     (tie.spec
-    (λ c. search needs)
-    (λ c κs. search needs)
-    (λ c. search needs)
-    (λ c κs. search needs)
-    (λ c. search needs)
+    (λ c. search needs) (λ c κs. search needs) (λ c. search needs) (λ c κs. search needs) (λ c. search needs)
     returns
     returns-2
     (λ c. search needs))

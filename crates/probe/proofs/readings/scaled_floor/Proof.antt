@@ -20,12 +20,6 @@ facts : (c : tie.Start)
     → Fields (c .args .x) (toBits binary32 (c .args .x) % 2147483648 / 8388608) (toBits binary32 (c .args .x) % 8388608) (c .args .numerator) (c .args .denominator)
 facts c = fields-of (c .args .x) (c .args .numerator) (c .args .denominator) (held c) (c .pre .0) (c .pre .1) (c .pre .2)
 
-float-to-bits-bits : tie.Need-float-to-bits-bits
-float-to-bits-bits c = no-nan (c .args .x) (c .pre .0)
-
-cast-bits : tie.Need-cast-bits
-cast-bits c = record { fits = lt-of-lt-of-le (toBits-lt binary32 (c .args .x) (held c)) (lit≤ tt) }
-
 returns : tie.Need-returns
 returns c = sym (facts (c .before) .none (c .if1 .taken))
 
@@ -33,9 +27,6 @@ mul-scaled : tie.Need-mul-scaled
 mul-scaled c =
     let start = c .before in
     record { fits = fits-64 (toBits binary32 (start .args .x) % 8388608) (start .args .numerator) (mod-lt (toBits binary32 (start .args .x)) (lit< tt)) (start .pre .1) }
-
-sub-shift : tie.Need-sub-shift
-sub-shift c = omega (arith, facts (c .before) .high)
 
 returns-2 : tie.Need-returns-2
 returns-2 c = sym (facts (c .before .before) .some (c .before .if1 .left))
@@ -51,13 +42,13 @@ pub scaled-floor-spec : {M : Type 1} → statement M
 scaled-floor-spec =
     tie.close
     (tie.spec
-    float-to-bits-bits
-    cast-bits
+    (λ c. no-nan (c .args .x) (c .pre .0))
+    (λ c. record { fits = lt-of-lt-of-le (toBits-lt binary32 (c .args .x) (held c)) (lit≤ tt) })
     returns
     (λ c. search needs)
     mul-scaled
     (λ c. search needs)
-    sub-shift
+    (λ c. omega (arith, facts (c .before) .high))
     (λ c. search needs)
     returns-2
     returns-3)

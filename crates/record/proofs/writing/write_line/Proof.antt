@@ -2,7 +2,7 @@
 use Prim.Native.Nat.{_+_, _-_}
 use mathlib.Core.Path.{_≡_, ap, _∙_}
 use native.Mathlib.Omega.{arith}
-use lib.ListN.{length, take, drop, set, length-take, length-drop}
+use lib.ListN.{length, take, drop, length-take, length-drop}
 use lib.IntN.{ℤ}
 use mir.Facts.{toZ-ofZ}
 use Rattle.text.specs.Decimals.{decimal}
@@ -20,24 +20,17 @@ returns c =
     let front = value .before .before .before .before in
     let start = front .before .before .before .before in
     let args = start .args in
-    let l = args .out .now in
-    let part = take (args .at + lineBytes - args .at) (drop (args .at) l) in
+    let fronted = front .write-front .last .0 in
+    let part = take (args .at + lineBytes - args .at) (drop (args .at) (args .out .now)) in
     let room : length part ≡ lineBytes = simp (length-take, length-drop) (omega arith) in
-    part-written l (set (value .write-decimal .last .0) 26 10) _ (args .at) lineBytes (line-length (args .cell) (args .k + 1) (args .value))
-    (line-written part (front .write-front .last .0) (value .write-decimal .last .0) (args .cell) (args .k + 1) (args .value) room
-    (front .write-front .ensures)
-    (value .write-decimal .ensures ∙ ap (λ (z : ℤ). putWithin (front .write-front .last .0) 6 (decimal 20 z)) (toZ-ofZ (start .fits .value))))
+    let columns = ap (λ (z : ℤ). putWithin fronted 6 (decimal 20 z)) (toZ-ofZ (start .fits .value)) in
+    part-written (args .out .now) _ _ (args .at) lineBytes (line-length (args .cell) (args .k + 1) (args .value))
+    (line-written part fronted _ _ _ _ room (front .write-front .ensures) (value .write-decimal .ensures ∙ columns))
 
 pub write-line-spec : {M : Type 1} → statement M
 write-line-spec =
     tie.close
     (tie.spec
-    (λ c. search needs)
-    (λ c. search needs)
-    (λ c. search needs)
-    (λ c. search needs)
-    (λ c κs. search needs)
-    (λ c κs. search needs)
-    (λ c. search needs)
-    (λ c. search needs)
+    (λ c. search needs) (λ c. search needs) (λ c. search needs) (λ c. search needs) (λ c κs. search needs)
+    (λ c κs. search needs) (λ c. search needs) (λ c. search needs)
     returns)

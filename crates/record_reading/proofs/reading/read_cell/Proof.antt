@@ -1,7 +1,7 @@
 -- `reading::read_cell` meets its contract. The loop's invariant: the first k lines have their values, which are
 -- stored: those of the first 18 lines as amounts, those past them as carries. No assumptions.
-use Prim.Native.Nat.{ℕ, _+_, _-_, _*_, _≤_, _<_}
-use mathlib.Core.Path.{_≡_, sym, ap, ap₂, _∙_}
+use Prim.Native.Nat.{ℕ, _+_, _-_, _≤_}
+use mathlib.Core.Path.{_≡_, sym, ap, _∙_}
 use mathlib.Core.Bool.{true, false≢true}
 use mathlib.Core.Logic.{⊎-elim}
 use native.Mathlib.Omega.{arith}
@@ -17,11 +17,11 @@ use Rattle.numeric.proofs.CheckLaws.{every-none, every-more, every-fails}
 use Rattle.numeric.proofs.Filling.{run-none}
 use Rattle.numeric.proofs.Machine.{kept, result-is}
 use Rattle.stoichiometry.specs.Substances.{substances}
-use Rattle.text_reading.specs.declared.Number.{Number}
-use Rattle.text.specs.Blocks.{part}
-use Rattle.record.specs.Lines.{lines, lineBytes, cellBytes}
-use Rattle.record_reading.specs.Reading.{lineNumber, valueAt}
-use Rattle.record_reading.proofs.ReadCells.{value-on, amount-small, carry-range, amount-stored, amounts-kept, carry-stored, carries-kept}
+use Rattle.text_reading.specs.declared.Decimal.{Decimal}
+use Rattle.record.specs.Lines.{lines}
+use Rattle.record_reading.specs.Reading.{valueAt}
+use Rattle.record_reading.proofs.ReadCells.{value-on, value-small, carry-range}
+use Rattle.record_reading.proofs.ReadCells.{amount-stored, amounts-kept, carry-stored, carries-kept}
 use Rattle.record_reading.proofs.reading.read_cell.Statement.{statement}
 use Rattle.record_reading.proofs.reading.read_cell.Tie as tie
 
@@ -36,71 +36,43 @@ abbrev μ-loop : tie.MeasureT-loop
 μ-loop text c amounts₀ carries₀ start amount carry cell k₀ amounts carries k = lines - k
 
 -- The turn in which a line is read, the value on its line, and that the call reads it.
-abbrev turnOf : tie.After-line-number Inv-loop μ-loop → tie.At-loop Inv-loop μ-loop
+abbrev turnOf : tie.After-line-value Inv-loop μ-loop → tie.At-loop Inv-loop μ-loop
 turnOf c = let at-lowest = c .before .before in at-lowest .before .before
 
-abbrev valueOn : tie.At-loop Inv-loop μ-loop → Number
+abbrev valueOn : tie.At-loop Inv-loop μ-loop → Decimal
 valueOn c = let args = c .before .before .args in valueAt (args .text .now) (args .c) (c .loop .k)
 
-value : (c : tie.After-line-number Inv-loop μ-loop) → c .line-number .result ≡ valueOn (turnOf c)
+value : (c : tie.After-line-value Inv-loop μ-loop) → c .line-value .result ≡ valueOn (turnOf c)
 value c =
     let at-lowest = c .before .before in
-    let at-loop = turnOf c in
-    let args = at-loop .before .before .args in
-    let k = at-loop .loop .k in
-    c .line-number .ensures
-    ∙ ap₂ (lineNumber (part (args .c * cellBytes + k * lineBytes) lineBytes (args .text .now)) (args .c + 1) (k + 1))
-    (result-is _ (at-lowest .lowest-on .ensures) (at-lowest .lowest-on .ok))
-    (result-is _ (c .before .highest-on .ensures) (c .before .highest-on .ok))
-    ∙ value-on (args .text .now) (args .c) k
-
-cast-cell : tie.Need-cast-cell Inv-loop μ-loop
-cast-cell c = fits-below {n = 100} tt (omega arith)
-
-loop-holds : tie.Need-loop-holds Inv-loop μ-loop
-loop-holds c = (omega arith, every-none _, run-none _ _ _, run-none _ _ _)
-
-cast-line-number : tie.Need-cast-line-number Inv-loop μ-loop
-cast-line-number c = fits-below {n = 100} tt (omega arith)
+    let args = turnOf c .before .before .args in
+    let low = result-is _ (at-lowest .lowest-on .ensures) (at-lowest .lowest-on .ok) in
+    let high = result-is _ (c .before .highest-on .ensures) (c .before .highest-on .ok) in
+    rw (low, high) at (c .line-value .ensures) ∙ value-on (args .text .now) (args .c) (turnOf c .loop .k)
 
 returns : tie.Need-returns Inv-loop μ-loop
 returns c =
     let tested = c .before .before in
     let in-loop = tested .before .before .before in
-    let at-loop = in-loop .before in
-    let args = at-loop .before .before .args in
-    let wrong = ap (λ (n : Number). n .ok) (sym (value tested)) ∙ not-true _ (c .if1 .taken) in (
-      sym (every-fails lines (at-loop .loop .k) (λ q. valueAt (args .text .now) (args .c) q .ok) (in-loop .loop-test .taken) wrong),
-      (λ h. absurd (false≢true h), λ h. absurd (false≢true h)),
-    )
+    let wrong = ap (λ (n : Decimal). n .ok) (sym (value tested)) ∙ not-true _ (c .if1 .taken) in
+    let fails = every-fails lines _ _ (in-loop .loop-test .taken) wrong in
+    (sym fails, (λ h. absurd (false≢true h), λ h. absurd (false≢true h)))
 
 -- The line has its value, which fits.
 right : (c : tie.Else1 Inv-loop μ-loop) → valueOn (turnOf (c .before .before)) .ok ≡ true
-right c = ap (λ (n : Number). n .ok) (sym (value (c .before .before))) ∙ not-false _ (c .if1 .left)
+right c = ap (λ (n : Decimal). n .ok) (sym (value (c .before .before))) ∙ not-false _ (c .if1 .left)
 
-amount-read : (c : tie.Else1 Inv-loop μ-loop) → turnOf (c .before .before) .loop .k < substances
-    → kept (c .before .before .line-number .result .value) ≡ valueOn (turnOf (c .before .before)) .value
-amount-read c h =
-    let at-loop = turnOf (c .before .before) in
-    let args = at-loop .before .before .args in
-    let small = amount-small (args .text .now) (args .c) (at-loop .loop .k) h (right c) in
-    ap (λ (n : Number). kept (n .value)) (value (c .before .before)) ∙ toZ-ofZ (fits-abs _ (omega (arith, small)))
-
-carry-read : (c : tie.Else1 Inv-loop μ-loop) → substances ≤ turnOf (c .before .before) .loop .k
-    → kept (c .before .before .line-number .result .value) ≡ valueOn (turnOf (c .before .before)) .value
-carry-read c h =
-    let at-loop = turnOf (c .before .before) in
-    let args = at-loop .before .before .args in
-    let range = carry-range (args .text .now) (args .c) (at-loop .loop .k) h (right c) in
-    ap (λ (n : Number). kept (n .value)) (value (c .before .before)) ∙ toZ-ofZ (fits-abs _ (omega (arith, range .1)))
+fits : (c : tie.Else1 Inv-loop μ-loop)
+    → kept (c .before .before .line-value .result .value) ≡ valueOn (turnOf (c .before .before)) .value
+fits c =
+    ap (λ (n : Decimal). kept (n .value)) (value (c .before .before))
+    ∙ toZ-ofZ (fits-abs _ (omega (arith, value-small _ _ _ (right c))))
 
 cast-carries : tie.Need-cast-carries Inv-loop μ-loop
 cast-carries c =
     let left = c .before .before in
-    let at-loop = turnOf (left .before .before) in
-    let args = at-loop .before .before .args in
-    let range = carry-range (args .text .now) (args .c) (at-loop .loop .k) (c .if2 .left) (right left) in
-    rw (carry-read left (c .if2 .left)) (yes-nonNeg (range .0), fits-below {n = 1000000} tt (omega (arith, range .1)))
+    let range = carry-range _ _ _ (c .if2 .left) (right left) in
+    rw (fits left) (yes-nonNeg (range .0), fits-below {n = 1000000} tt (omega (arith, range .1)))
 
 loop-again : tie.Need-loop-again Inv-loop μ-loop
 loop-again c =
@@ -114,17 +86,17 @@ loop-again c =
     let h = w .0 .taken in (
       omega arith,
       every-more k _ (inv .1) (right left),
-      w .1 ∙ amount-stored _ _ _ k _ h (inv .2) _ (amount-read left h),
+      w .1 ∙ amount-stored _ _ _ k _ h (inv .2) _ (fits left),
       w .2 ∙ carries-kept _ _ _ k _ h (inv .3),
     ))
     (λ w.
     let h = w .0 .left in
     let line : substances + (k - substances) ≡ k = omega arith in
-    let stored = ap natAbs (carry-read left h) ∙ ap (λ (q : ℕ). natAbs (valueAt (args .text .now) (args .c) q .value)) (sym line) in (
+    let at-line = ap (λ (q : ℕ). natAbs (valueAt (args .text .now) (args .c) q .value)) (sym line) in (
       omega arith,
       every-more k _ (inv .1) (right left),
       w .1 ∙ amounts-kept _ _ _ k _ h (inv .2),
-      w .2 ∙ carry-stored _ _ _ k _ h (inv .3) _ stored,
+      w .2 ∙ carry-stored _ _ _ k _ h (inv .3) _ (ap natAbs (fits left) ∙ at-line),
     ))
     (c .if2 .came)
 
@@ -142,28 +114,15 @@ read-cell-spec =
     (tie.spec
     Inv-loop
     μ-loop
-    (λ c. omega arith)
-    (λ c. omega arith)
-    (λ c. omega arith)
-    (λ c. omega arith)
-    cast-cell
-    loop-holds
-    (λ c. omega arith)
-    (λ c. omega arith)
-    (λ c. omega arith)
-    cast-line-number
-    (λ c κs. search needs)
-    (λ c κs. search needs)
-    (λ c κs. omega arith)
+    (λ c. omega arith) (λ c. omega arith) (λ c. omega arith) (λ c. omega arith)
+    (λ c. fits-below {n = 100} tt (omega arith))
+    (λ c. (omega arith, every-none _, run-none _ _ _, run-none _ _ _))
+    (λ c. omega arith) (λ c. omega arith) (λ c. omega arith)
+    (λ c. fits-below {n = 100} tt (omega arith))
+    (λ c κs. search needs) (λ c κs. search needs) (λ c κs. omega arith)
     returns
-    (λ c. omega arith)
-    (λ c. omega arith)
-    (λ c. omega arith)
+    (λ c. omega arith) (λ c. omega arith) (λ c. omega arith)
     cast-carries
-    (λ c. omega arith)
-    (λ c. omega arith)
-    (λ c. omega arith)
-    (λ c. omega arith)
-    (λ c. omega arith)
+    (λ c. omega arith) (λ c. omega arith) (λ c. omega arith) (λ c. omega arith) (λ c. omega arith)
     loop-again
     returns-2)

@@ -13,15 +13,14 @@ use Rattle.numeric.proofs.GridLaws.{RowsFilled, rows-none, rows-next, rows-done
 use Rattle.stoichiometry.specs.Rows.{processes}
 use Rattle.stoichiometry.specs.Substances.{substances}
 use Rattle.river.specs.Rivers.{mostCells}
-use Rattle.record.specs.Lines.{lines}
-use Rattle.record_reading.specs.Reading.{valueAt, linesRight, amountsIn, carriesIn}
+use Rattle.record_reading.specs.Reading.{valueAt, cellRight, linesRight, amountsIn, carriesIn}
 use Rattle.record_reading.proofs.reading.read_cells.Statement.{statement}
 use Rattle.record_reading.proofs.reading.read_cells.Tie as tie
 
 abbrev Inv-loop : tie.InvT-loop
 Inv-loop text n amounts₀ carries₀ c₀ amounts carries c =
     (c ≤ n)
-    × (every c (λ d. every lines (λ k. valueAt text d k .ok)) ≡ true)
+    × (every c (cellRight text) ≡ true)
     × RowsFilled mostCells substances n (pos 0) (λ d k. valueAt text d k .value) c amounts
     × RowsFilled mostCells processes n 0 (λ d p. natAbs (valueAt text d (substances + p) .value)) c carries
 
@@ -30,49 +29,44 @@ abbrev μ-loop : tie.MeasureT-loop
 
 loop-holds : tie.Need-loop-holds Inv-loop μ-loop
 loop-holds c =
-    let start = c .before in
-    (omega arith, every-none _, rw (start .pre .1 .0) (rows-none mostCells substances _ (pos 0) _), rw (start .pre .1 .1) (rows-none mostCells processes _ 0 _))
-
-read-cell-requires : tie.Need-read-cell-requires Inv-loop μ-loop
-read-cell-requires c κs = (omega arith, omega arith)
+    let pre = c .before .pre .1 in
+    (omega arith, every-none _, rw (pre .0) (rows-none mostCells _ _ _ _), rw (pre .1) (rows-none mostCells _ _ _ _))
 
 returns : tie.Need-returns Inv-loop μ-loop
 unfolding linesRight
 returns c =
     let called = c .before in
     let in-loop = called .before .before .before in
-    let at-loop = in-loop .before in
-    let start = at-loop .before .before in
     let wrong = sym (called .read-cell .ensures .0) ∙ not-true _ (c .if1 .taken) in
-    (sym (every-fails (start .args .n) (at-loop .loop .c) _ (in-loop .loop-test .taken) wrong), (λ h. absurd (false≢true h), λ h. absurd (false≢true h)))
+    let fails = every-fails _ _ _ (in-loop .loop-test .taken) wrong in
+    (sym fails, (λ h. absurd (false≢true h), λ h. absurd (false≢true h)))
 
 loop-again : tie.Need-loop-again Inv-loop μ-loop
 loop-again c =
     let called = c .before in
     let in-loop = called .before .before .before in
     let at-loop = in-loop .before in
-    let start = at-loop .before .before in
-    let d = at-loop .loop .c in
+    let now = at-loop .loop in
+    let most = at-loop .before .before .pre .0 .0 in
     let below = in-loop .loop-test .taken in
     let read = called .read-cell .ensures in
-    let right = not-false _ (c .if1 .left) in (
+    let right : called .read-cell .result ≡ true = not-false _ (c .if1 .left) in (
       omega arith,
-      every-more d _ (at-loop .loop .inv .1) (sym (read .0) ∙ right),
-      rows-next mostCells substances _ (pos 0) _ d _ _ _ (at-loop .loop .inv .2) below (start .pre .0 .0) (λ k h. refl) (read .1 .0 right),
-      rows-next mostCells processes _ 0 _ d _ _ _ (at-loop .loop .inv .3) below (start .pre .0 .0) (λ p h. refl) (read .1 .1 right),
+      every-more (now .c) _ (now .inv .1) (sym (read .0) ∙ right),
+      rows-next mostCells substances _ _ _ (now .c) _ _ _ (now .inv .2) below most (λ k h. refl) (read .1 .0 right),
+      rows-next mostCells processes _ _ _ (now .c) _ _ _ (now .inv .3) below most (λ p h. refl) (read .1 .1 right),
     )
 
 returns-2 : tie.Need-returns-2 Inv-loop μ-loop
 unfolding linesRight amountsIn carriesIn
 returns-2 c =
     let at-loop = c .before in
-    let start = at-loop .before .before in
-    let n = start .args .n in
-    let finished : at-loop .loop .c ≡ n = omega arith in (
-      sym (rw finished at (at-loop .loop .inv .1)),
+    let inv = at-loop .loop .inv in
+    let finished : at-loop .loop .c ≡ at-loop .before .before .args .n = omega arith in (
+      sym (rw finished at (inv .1)),
       (
-        λ h. rows-done mostCells substances n (pos 0) _ _ _ (lit< tt) finished (at-loop .loop .inv .2),
-        λ h. rows-done mostCells processes n 0 _ _ _ (lit< tt) finished (at-loop .loop .inv .3),
+        λ h. rows-done mostCells substances _ _ _ _ _ (lit< tt) finished (inv .2),
+        λ h. rows-done mostCells processes _ _ _ _ _ (lit< tt) finished (inv .3),
       ),
     )
 
@@ -83,9 +77,8 @@ read-cells-spec =
     Inv-loop
     μ-loop
     loop-holds
-    read-cell-requires
+    (λ c κs. omega arith)
     returns
-    (λ c. omega arith)
-    (λ c. omega arith)
+    (λ c. omega arith) (λ c. omega arith)
     loop-again
     returns-2)

@@ -17,7 +17,7 @@ returns c =
 returns-2 : tie.Need-returns-2
 returns-2 c =
     let args = c .before .before .before .args in
-    let tested = c .each-fits in
+    let tested = c .each-amount-fits in
     run-decides (args .amounts .now) (args .start) substances (tested .result) (tested .ensures .0) (tested .ensures .1)
 
 pub cell-fits-spec : {M : Type 1} → statement M

@@ -1,24 +1,18 @@
 -- `amounts::first_cells_fit` meets its contract. The loop's invariant: the cells passed fit. No assumptions.
-use Prim.Native.Nat.{ℕ, _≤_, _-_}
+use Prim.Native.Nat.{_≤_, _-_}
 use mathlib.Core.Bool.{true}
 use mathlib.Core.Path.{_≡_, sym, _∙_}
 use native.Mathlib.Omega.{arith}
-use Rattle.numeric.specs.Check.{every}
 use Rattle.numeric.proofs.CheckLaws.{every-none, every-more, every-fails}
-use Rattle.stoichiometry.specs.Substances.{substances}
-use Rattle.river.specs.Rivers.{amountFits, amountAt}
+use Rattle.river.specs.Inner.Parts.{firstCellsFit}
 use Rattle.river.proofs.amounts.first_cells_fit.Statement.{statement}
 use Rattle.river.proofs.amounts.first_cells_fit.Tie as tie
 
 abbrev Inv-loop : tie.InvT-loop
-Inv-loop n amounts c₀ c =
-    (c ≤ n) × (every c (λ (d : ℕ). every substances (λ (s : ℕ). amountFits s (amountAt amounts d s))) ≡ true)
+Inv-loop n amounts c₀ c = (c ≤ n) × (firstCellsFit c amounts ≡ true)
 
 abbrev μ-loop : tie.MeasureT-loop
 μ-loop n amounts c₀ c = n - c
-
-loop-holds : tie.Need-loop-holds Inv-loop μ-loop
-loop-holds c = (omega arith, every-none _)
 
 loop-again : tie.Need-loop-again Inv-loop μ-loop
 loop-again c =
@@ -44,11 +38,8 @@ first-cells-fit-spec =
     (tie.spec
     Inv-loop
     μ-loop
-    loop-holds
-    (λ c. omega arith)
-    (λ c κs. omega arith)
-    (λ c. omega arith)
-    (λ c. omega arith)
+    (λ c. (omega arith, every-none _))
+    (λ c. omega arith) (λ c κs. omega arith) (λ c. omega arith) (λ c. omega arith)
     loop-again
     returns
     returns-2)

@@ -6,19 +6,16 @@ use borrow.Author.Needs.{sfits-of}
 use mir.Facts.{toZ-ofZ}
 use mir.Syntax.{w64}
 use mir.Val.{toZ}
-use Rattle.river.specs.Inner.Runs.{Covers}
+use Rattle.river.specs.Inner.Runs.{CoversAmounts}
 use Rattle.river.proofs.Runs.{covers-none, covers-more}
 use Rattle.river.proofs.amounts.joined.Statement.{statement}
 use Rattle.river.proofs.amounts.joined.Tie as tie
 
 abbrev Inv-loop : tie.InvT-loop
-Inv-loop amounts start count bits₀ i₀ bits i = (i ≤ count) × Covers amounts start i (toZ w64 bits)
+Inv-loop amounts start count bits₀ i₀ bits i = (i ≤ count) × CoversAmounts amounts start i (toZ w64 bits)
 
 abbrev μ-loop : tie.MeasureT-loop
 μ-loop amounts start count bits₀ i₀ bits i = count - i
-
-loop-holds : tie.Need-loop-holds Inv-loop μ-loop
-loop-holds c = (omega arith, covers-none (c .args .amounts .now) (c .args .start) (toZ w64 0))
 
 loop-again : tie.Need-loop-again Inv-loop μ-loop
 loop-again c =
@@ -41,11 +38,7 @@ joined-spec =
     (tie.spec
     Inv-loop
     μ-loop
-    loop-holds
-    (λ c. omega arith)
-    (λ c. omega arith)
-    (λ c. omega arith)
-    (λ c. omega arith)
-    (λ c. omega arith)
+    (λ c. (omega arith, covers-none (c .args .amounts .now) (c .args .start) (toZ w64 0)))
+    (λ c. omega arith) (λ c. omega arith) (λ c. omega arith) (λ c. omega arith) (λ c. omega arith)
     loop-again
     returns)

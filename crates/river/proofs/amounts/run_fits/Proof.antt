@@ -15,8 +15,8 @@ returns c =
     let bits = at-joined .joined .result in
     let same : kept bits ≡ bits = toZ-ofZ {z = bits} (sfits-of (at-joined .joined .ok)) in
     λ e.
-    run-covered (args .amounts .now) (args .start) (args .first) (args .end) bits (at-start .pre .0 .1) (at-start .pre .1)
-    (at-joined .joined .ensures) (rw same at (sym (c .amount-fits .ensures) ∙ e))
+    run-covered (args .amounts .now) (args .start) (args .first) (args .end) bits (at-start .pre .0 .1)
+    (at-start .pre .1) (at-joined .joined .ensures) (rw same at (sym (c .amount-fits .ensures) ∙ e))
 
 pub run-fits-spec : {M : Type 1} → statement M
 run-fits-spec =

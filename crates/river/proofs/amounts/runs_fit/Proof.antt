@@ -7,33 +7,22 @@ use borrow.Author.Needs.{needs}
 use borrow.Author.Tests.{not-false}
 use Rattle.numeric.specs.Check.{every}
 use Rattle.stoichiometry.specs.Substances.{substances}
-use Rattle.river.proofs.Runs.{same-bounds, run-append}
+use Rattle.river.specs.Rivers.{lowestAt, highestAt}
+use Rattle.river.proofs.Runs.{run-append}
 use Rattle.river.proofs.amounts.runs_fit.Statement.{statement}
 use Rattle.river.proofs.amounts.runs_fit.Tie as tie
 
 run-fits-requires : tie.Need-run-fits-requires
-unfolding every
-run-fits-requires c κs = ((omega arith, omega arith, omega arith), same-bounds 0 2 (omega arith) (omega arith) refl)
-
-returns : tie.Need-returns
-returns c e = absurd (true≢false (sym e))
+unfolding every lowestAt highestAt
+run-fits-requires c κs = ((omega arith, omega arith, omega arith), refl)
 
 run-fits-requires-2 : tie.Need-run-fits-requires-2
-unfolding every
-run-fits-requires-2 c κs = ((omega arith, omega arith, omega arith), same-bounds 2 8 (omega arith) (omega arith) refl)
-
-returns-2 : tie.Need-returns-2
-returns-2 c e = absurd (true≢false (sym e))
-
-returns-3 : tie.Need-returns-3
-returns-3 c e = absurd (true≢false (sym e))
+unfolding every lowestAt highestAt
+run-fits-requires-2 c κs = ((omega arith, omega arith, omega arith), refl)
 
 run-fits-requires-3 : tie.Need-run-fits-requires-3
-unfolding every
-run-fits-requires-3 c κs = ((omega arith, omega arith, omega arith), same-bounds 9 15 (omega arith) (omega arith) refl)
-
-returns-4 : tie.Need-returns-4
-returns-4 c e = absurd (true≢false (sym e))
+unfolding every lowestAt highestAt
+run-fits-requires-3 c κs = ((omega arith, omega arith, omega arith), refl)
 
 returns-5 : tie.Need-returns-5
 returns-5 c e =
@@ -46,25 +35,24 @@ returns-5 c e =
     let start = args .start in
     let first = after-first .before .run-fits .ensures (not-false _ (after-first .if1 .left)) in
     let grains = after-grains .before .run-fits2 .ensures (not-false _ (after-grains .if2 .left)) in
-    let net = after-net .before .each-fits .ensures .0 (not-false _ (after-net .if3 .left)) in
+    let net = after-net .before .each-amount-fits .ensures .0 (not-false _ (after-net .if3 .left)) in
     let organics = after-organics .before .run-fits3 .ensures (not-false _ (after-organics .if4 .left)) in
-    let last = c .each-fits2 .ensures .0 e in
     let to-net = run-append amounts start 0 2 8 first grains in
     let to-organics = run-append amounts start 0 8 9 to-net net in
     let to-last = run-append amounts start 0 9 15 to-organics organics in
-    run-append amounts start 0 15 substances to-last last
+    run-append amounts start 0 15 substances to-last (c .each-amount-fits2 .ensures .0 e)
 
 pub runs-fit-spec : {M : Type 1} → statement M
 runs-fit-spec =
     tie.close
     (tie.spec
     run-fits-requires
-    returns
+    (λ c e. absurd (true≢false (sym e)))
     run-fits-requires-2
-    returns-2
+    (λ c e. absurd (true≢false (sym e)))
     (λ c κs. search needs)
-    returns-3
+    (λ c e. absurd (true≢false (sym e)))
     run-fits-requires-3
-    returns-4
+    (λ c e. absurd (true≢false (sym e)))
     (λ c κs. search needs)
     returns-5)

@@ -49,4 +49,5 @@ returns-3 c =
 pub letter-spec : {M : Type 1} → statement M
 letter-spec =
     tie.close
-    (tie.spec (λ c. search needs) (λ c κs. search needs) (λ c. search needs) (λ c κs. search needs) returns returns-2 returns-3)
+    (tie.spec (λ c. search needs) (λ c κs. search needs) (λ c. search needs) (λ c κs. search needs)
+    returns returns-2 returns-3)

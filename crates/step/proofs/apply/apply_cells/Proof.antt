@@ -13,19 +13,17 @@ use Rattle.step.proofs.apply.apply_cells.Statement.{statement}
 use Rattle.step.proofs.apply.apply_cells.Tie as tie
 
 abbrev Inv-loop : tie.InvT-loop
-Inv-loop n amounts whole entries out₀ c₀ out c = (c ≤ n) × RowsFilled mostCells substances n (pos 0) (newFrom amounts whole entries) c out
+Inv-loop n amounts whole entries out₀ c₀ out c =
+    (c ≤ n) × RowsFilled mostCells substances n (pos 0) (newFrom amounts whole entries) c out
 
 abbrev μ-loop : tie.MeasureT-loop
 μ-loop n amounts whole entries out₀ c₀ out c = n - c
-
-loop-holds : tie.Need-loop-holds Inv-loop μ-loop
-loop-holds c = (omega arith, rw (c .pre .4) (rows-none mostCells substances _ (pos 0) _))
 
 apply-cell-requires : tie.Need-apply-cell-requires Inv-loop μ-loop
 apply-cell-requires c κs =
     let at-loop = c .before .before in
     let start = at-loop .before in
-    (omega arith, start .pre .1, start .pre .2, start .pre .3)
+    record { cell = omega arith; amount = start .pre .1; batches = start .pre .2; rows = start .pre .3 }
 
 loop-again : tie.Need-loop-again Inv-loop μ-loop
 loop-again c =
@@ -33,8 +31,8 @@ loop-again c =
     let at-loop = entered .before in
     let start = at-loop .before in
     let next =
-    rows-next mostCells substances _ (pos 0) _ (at-loop .loop .c) _ _ _ (at-loop .loop .inv .1) (entered .loop-test .taken)
-    (start .pre .0) (λ s l. refl) (c .apply-cell .ensures) in
+    rows-next mostCells substances _ (pos 0) _ (at-loop .loop .c) _ _ _ (at-loop .loop .inv .1)
+    (entered .loop-test .taken) (start .pre .0) (λ s l. refl) (c .apply-cell .ensures) in
     (omega arith, next)
 
 returns : tie.Need-returns Inv-loop μ-loop
@@ -48,4 +46,11 @@ returns c =
 pub apply-cells-spec : {M : Type 1} → statement M
 apply-cells-spec =
     tie.close
-    (tie.spec Inv-loop μ-loop loop-holds apply-cell-requires (λ c. omega arith) (λ c. omega arith) loop-again returns)
+    (tie.spec
+    Inv-loop
+    μ-loop
+    (λ c. (omega arith, rw (c .pre .4) (rows-none mostCells substances _ (pos 0) _)))
+    apply-cell-requires
+    (λ c. omega arith) (λ c. omega arith)
+    loop-again
+    returns)

@@ -1,27 +1,20 @@
 -- `step::split::batches_fit` meets its contract. The loop's invariant: the batches of the cells passed fit. No
 -- assumptions.
-use Prim.Native.Nat.{_+_, _*_, _-_, _≤_}
+use Prim.Native.Nat.{_-_, _≤_}
 use mathlib.Core.Bool.{true}
 use mathlib.Core.Path.{_≡_, sym, _∙_}
 use native.Mathlib.Omega.{arith}
-use lib.ListN.{getD}
-use lib.IntN.{pos}
-use lib.Signed.{leZ}
 use Rattle.numeric.specs.Check.{every}
 use Rattle.numeric.proofs.CheckLaws.{every-none, every-more, every-fails}
-use Rattle.stoichiometry.specs.Rows.{processes}
-use Rattle.step.specs.Steps.{mostBatches}
+use Rattle.step.specs.Inner.Stepping.{cellBatchesFit}
 use Rattle.step.proofs.split.batches_fit.Statement.{statement}
 use Rattle.step.proofs.split.batches_fit.Tie as tie
 
 abbrev Inv-loop : tie.InvT-loop
-Inv-loop n whole c₀ c = (c ≤ n) × (every c (λ d. every processes (λ p. leZ (getD whole (d * processes + p) (pos 0)) (pos mostBatches))) ≡ true)
+Inv-loop n whole c₀ c = (c ≤ n) × (every c (cellBatchesFit whole) ≡ true)
 
 abbrev μ-loop : tie.MeasureT-loop
 μ-loop n whole c₀ c = n - c
-
-loop-holds : tie.Need-loop-holds Inv-loop μ-loop
-loop-holds c = (omega arith, every-none _)
 
 loop-again : tie.Need-loop-again Inv-loop μ-loop
 loop-again c =
@@ -46,11 +39,8 @@ batches-fit-spec =
     (tie.spec
     Inv-loop
     μ-loop
-    loop-holds
-    (λ c. omega arith)
-    (λ c κs. omega arith)
-    (λ c. omega arith)
-    (λ c. omega arith)
+    (λ c. (omega arith, every-none _))
+    (λ c. omega arith) (λ c κs. omega arith) (λ c. omega arith) (λ c. omega arith)
     loop-again
     returns
     returns-2)

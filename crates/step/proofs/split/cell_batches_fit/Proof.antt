@@ -6,38 +6,37 @@ use mathlib.Core.Path.{_≡_, sym}
 use native.Mathlib.Omega.{arith}
 use lib.ListN.{getD}
 use lib.IntN.{pos}
-use lib.Signed.{leZ}
 use Rattle.numeric.specs.Check.{every}
-use Rattle.numeric.proofs.Machine.{kept-is}
+use Rattle.numeric.proofs.Machine.{kept, kept-is}
 use Rattle.numeric.proofs.CheckLaws.{every-none, every-more, every-fails}
 use Rattle.stoichiometry.specs.Rows.{processes}
-use Rattle.step.specs.Steps.{mostBatches}
+use Rattle.step.specs.Inner.Stepping.{batchFits}
 use Rattle.step.proofs.split.cell_batches_fit.Statement.{statement}
 use Rattle.step.proofs.split.cell_batches_fit.Tie as tie
 
 abbrev Inv-loop : tie.InvT-loop
-Inv-loop whole at p₀ p = (p ≤ processes) × (every p (λ q. leZ (getD whole (at + q) (pos 0)) (pos mostBatches)) ≡ true)
+Inv-loop whole at p₀ p = (p ≤ processes) × (every p (batchFits whole at) ≡ true)
 
 abbrev μ-loop : tie.MeasureT-loop
 μ-loop whole at p₀ p = processes - p
 
-loop-holds : tie.Need-loop-holds Inv-loop μ-loop
-loop-holds c = (omega arith, every-none _)
+-- The batches that a turn tests are kept by the machine.
+kept-here : (c : tie.After-if12 Inv-loop μ-loop) → let at-loop = c .before .before in
+    let a = at-loop .before .args in
+    let x = getD (a .whole .now) (a .at + at-loop .loop .p) (pos 0) in
+    kept x ≡ x
+kept-here c = kept-is _ (c .if12 .given)
 
 loop-again : tie.Need-loop-again Inv-loop μ-loop
 loop-again c =
     let at-loop = c .before .before .before in
-    let start = at-loop .before in
-    let x = getD (start .args .whole .now) (start .args .at + at-loop .loop .p) (pos 0) in
-    (omega arith, every-more _ _ (at-loop .loop .inv .1) (rw (kept-is x (c .before .if12 .given)) at (c .if1 .taken)))
+    (omega arith, every-more _ _ (at-loop .loop .inv .1) (rw (kept-here (c .before)) at (c .if1 .taken)))
 
 returns : tie.Need-returns Inv-loop μ-loop
 returns c =
     let entered = c .before .before in
-    let at-loop = entered .before in
-    let start = at-loop .before in
-    let x = getD (start .args .whole .now) (start .args .at + at-loop .loop .p) (pos 0) in
-    sym (every-fails processes (at-loop .loop .p) _ (entered .loop-test .taken) (rw (kept-is x (c .before .if12 .given)) at (c .if1 .left)))
+    let p = entered .before .loop .p in
+    sym (every-fails processes p _ (entered .loop-test .taken) (rw (kept-here (c .before)) at (c .if1 .left)))
 
 returns-2 : tie.Need-returns-2 Inv-loop μ-loop
 returns-2 c =
@@ -51,12 +50,8 @@ cell-batches-fit-spec =
     (tie.spec
     Inv-loop
     μ-loop
-    loop-holds
-    (λ c. omega arith)
-    (λ c. omega arith)
-    (λ c. omega arith)
-    (λ c. omega arith)
-    (λ c. omega arith)
+    (λ c. (omega arith, every-none _))
+    (λ c. omega arith) (λ c. omega arith) (λ c. omega arith) (λ c. omega arith) (λ c. omega arith)
     loop-again
     returns
     returns-2)

@@ -1,6 +1,6 @@
 -- `step::split::split` meets its contract. The loop's invariant: each list is that at the start after the first p
 -- were stored. The measure is what is left of the cell. No assumptions.
-use Prim.Native.Nat.{_+_, _/_, _%_, _-_, _≤_}
+use Prim.Native.Nat.{_+_, _-_, _≤_}
 use mathlib.Core.Path.{_≡_, ap, _∙_}
 use native.Mathlib.Omega.{arith}
 use lib.IntN.{pos}
@@ -11,14 +11,14 @@ use Rattle.numeric.specs.Table.{run}
 use Rattle.numeric.proofs.Filling.{run-none, run-more}
 use Rattle.stoichiometry.specs.Rows.{processes}
 use Rattle.river.specs.Rivers.{mostCarry}
-use Rattle.step.specs.Inner.Stepping.{mostExtent, carriedFrom}
+use Rattle.step.specs.Inner.Stepping.{mostExtent, wholeOf, restOf}
 use Rattle.step.proofs.split.split.Statement.{statement}
 use Rattle.step.proofs.split.split.Tie as tie
 
 abbrev Inv-loop : tie.InvT-loop
 Inv-loop extents carries at whole₀ rest₀ p₀ whole rest p =
-    (p ≤ processes) × (whole ≡ run whole₀ at p (λ q. pos (carriedFrom extents carries at q / 1000000)))
-    × (rest ≡ run rest₀ at p (λ q. carriedFrom extents carries at q % 1000000))
+    (p ≤ processes) × (whole ≡ run whole₀ at p (wholeOf extents carries at))
+    × (rest ≡ run rest₀ at p (restOf extents carries at))
 
 abbrev μ-loop : tie.MeasureT-loop
 μ-loop extents carries at whole₀ rest₀ p₀ whole rest p = processes - p
@@ -33,25 +33,14 @@ fit c =
     let p = c .before .loop .p in
     (start .pre .2 .most (start .args .at + p) (omega arith), start .pre .1 .most p (omega arith))
 
-loop-holds : tie.Need-loop-holds Inv-loop μ-loop
-loop-holds c = (omega arith, run-none _ _ _, run-none _ _ _)
-
-whole-of-requires : tie.Need-whole-of-requires Inv-loop μ-loop
-whole-of-requires c κs = fit (c .before .before)
-
 -- The whole batches are far below 2^63.
 small : (c : tie.After-whole-of Inv-loop μ-loop) → c .whole-of .result ≤ mostExtent
 small c = rw (c .whole-of .ensures) (omega (arith, fit (c .before .before .before)))
 
-cast-whole : tie.Need-cast-whole Inv-loop μ-loop
-cast-whole c = omega (arith, small c)
-
-rest-of-requires : tie.Need-rest-of-requires Inv-loop μ-loop
-rest-of-requires c κs = fit (c .before .before .before)
-
 loop-again : tie.Need-loop-again Inv-loop μ-loop
 loop-again c =
-    let at-loop = c .before .before .before .before .before in
+    let entered : tie.In-loop Inv-loop μ-loop = search in
+    let at-loop = entered .before in
     let inv = at-loop .loop .inv in
     let p = at-loop .loop .p in
     let whole = toZ-pos w64 (omega (arith, small (c .before))) ∙ ap pos (c .before .whole-of .ensures) in
@@ -69,22 +58,12 @@ split-spec =
     (tie.spec
     Inv-loop
     μ-loop
-    loop-holds
-    (λ c. omega arith)
-    (λ c. omega arith)
-    (λ c. omega arith)
-    (λ c. omega arith)
-    (λ c. omega arith)
-    whole-of-requires
-    cast-whole
-    (λ c. omega arith)
-    (λ c. omega arith)
-    (λ c. omega arith)
-    rest-of-requires
-    (λ c. omega arith)
-    (λ c. omega arith)
-    (λ c. omega arith)
-    (λ c. omega arith)
-    (λ c. omega arith)
+    (λ c. (omega arith, run-none _ _ _, run-none _ _ _))
+    (λ c. omega arith) (λ c. omega arith) (λ c. omega arith) (λ c. omega arith) (λ c. omega arith)
+    (λ c κs. fit (c .before .before))
+    (λ c. omega (arith, small c))
+    (λ c. omega arith) (λ c. omega arith) (λ c. omega arith)
+    (λ c κs. fit (c .before .before .before))
+    (λ c. omega arith) (λ c. omega arith) (λ c. omega arith) (λ c. omega arith) (λ c. omega arith)
     loop-again
     returns)

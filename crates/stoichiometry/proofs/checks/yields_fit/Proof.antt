@@ -16,9 +16,6 @@ pub yields-fit-spec : {M : Type 1} → statement M
 yields-fit-spec =
     tie.close
     (tie.spec
-    (λ c. search needs)
-    (λ c κs. search needs)
-    (λ c. search needs)
-    (λ c κs. search needs)
+    (λ c. search needs) (λ c κs. search needs) (λ c. search needs) (λ c κs. search needs)
     (λ c κs. search needs)
     returns)

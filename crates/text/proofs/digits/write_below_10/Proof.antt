@@ -1,10 +1,8 @@
 -- `digits::write_below_10` meets its contract: no digit, no column to write in, one digit. No assumptions.
-use Prim.Native.Nat.{ℕ, _+_, _-_}
-use mathlib.Core.Path.{_≡_, sym, ap, _∙_}
+use Prim.Native.Nat.{_+_, _-_}
+use mathlib.Core.Path.{_≡_, sym, _∙_}
 use native.Mathlib.Omega.{arith}
 use lib.ListN.{length-set}
-use Rattle.text.specs.Writes.{put}
-use Rattle.text.specs.Decimals.{columns}
 use Rattle.text.proofs.DecimalLaws.{columns-end, blank-set}
 use Rattle.text.proofs.DigitLaws.{digit-turn}
 use borrow.Author.Needs.{needs}
@@ -14,15 +12,8 @@ use Rattle.text.proofs.digits.write_below_10.Tie as tie
 returns : tie.Need-returns
 returns c =
     let at-mark = c .before .before in
-    let args = at-mark .before .before .before .before .args in
-    let none : 0 ≡ args .n = omega arith in
-    at-mark .write-mark .ensures
-    ∙ ap (λ (n : ℕ). put (args .out .now) (args .at) (columns (args .width) (args .mark) n)) none
-
-returns-2 : tie.Need-returns-2
-returns-2 c =
-    let args = c .before .before .before .args in
-    sym (columns-end (args .out .now) (args .at) (args .width) (args .mark) (args .n) (omega arith))
+    let none : at-mark .before .before .before .before .args .n ≡ 0 = omega arith in
+    rw none (at-mark .write-mark .ensures)
 
 write-mark-requires-2 : tie.Need-write-mark-requires-2
 write-mark-requires-2 c κs =
@@ -33,12 +24,6 @@ write-mark-requires-2 c κs =
       blank-set (args .out .now) (args .at) (args .width) before (args .at + before) (48 + args .n) (start .pre .1)
           (omega arith) (omega arith),
     )
-
-same-length-2 : tie.Need-same-length-2
-same-length-2 c =
-    let at-mark = c .before .before in
-    let args = at-mark .before .before .before .before .before .args in
-    at-mark .write-mark2 .kept .0 ∙ length-set (args .out .now) (args .at + (args .width - 1)) (48 + args .n)
 
 returns-3 : tie.Need-returns-3
 returns-3 c =
@@ -53,15 +38,10 @@ pub write-below-10-spec : {M : Type 1} → statement M
 write-below-10-spec =
     tie.close
     (tie.spec
-    (λ c κs. search needs)
-    (λ c. search needs)
+    (λ c κs. search needs) (λ c. search needs)
     returns
-    returns-2
-    (λ c. search needs)
-    (λ c. search needs)
-    (λ c. search needs)
-    (λ c. search needs)
-    (λ c. search needs)
+    (λ c. sym (columns-end _ _ _ _ _ (omega arith)))
+    (λ c. search needs) (λ c. search needs) (λ c. search needs) (λ c. search needs) (λ c. search needs)
     write-mark-requires-2
-    same-length-2
+    (λ c. c .before .before .write-mark2 .kept .0 ∙ simp length-set)
     returns-3)

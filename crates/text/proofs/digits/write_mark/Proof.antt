@@ -10,8 +10,7 @@ use Rattle.text.proofs.digits.write_mark.Tie as tie
 returns : tie.Need-returns
 returns c =
     let start = c .before in
-    let args = start .args in
-    sym (blank-end (args .out .now) (args .at) (args .width) (args .mark) 0 (start .pre .1) (start .pre .0) refl (c .if1 .taken))
+    sym (blank-end (start .args .out .now) _ _ _ 0 (start .pre .1) (start .pre .0) refl (c .if1 .taken))
 
 returns-2 : tie.Need-returns-2
 returns-2 c =
@@ -26,4 +25,9 @@ returns-3 c =
 
 pub write-mark-spec : {M : Type 1} → statement M
 write-mark-spec =
-    tie.close (tie.spec returns returns-2 (λ c. search needs) (λ c. search needs) (λ c. search needs) (λ c. search needs) returns-3)
+    tie.close
+    (tie.spec
+    returns
+    returns-2
+    (λ c. search needs) (λ c. search needs) (λ c. search needs) (λ c. search needs)
+    returns-3)

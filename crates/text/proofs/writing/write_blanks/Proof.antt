@@ -15,9 +15,6 @@ Inv-loop out₀ at width i₀ out i = (i ≤ width) × (out ≡ put out₀ at (c
 abbrev μ-loop : tie.MeasureT-loop
 μ-loop out₀ at width i₀ out i = width - i
 
-loop-holds : tie.Need-loop-holds Inv-loop μ-loop
-loop-holds c = (omega arith, sym (columns-end _ _ 0 32 0 (omega arith)), refl)
-
 loop-again : tie.Need-loop-again Inv-loop μ-loop
 loop-again c =
     let at-loop = c .before in
@@ -27,9 +24,6 @@ loop-again c =
       blanks-more (args .out .now) (at-loop .loop .out) (args .at) (at-loop .loop .i) (omega arith) written,
       length-set (at-loop .loop .out) (args .at + at-loop .loop .i) 32 ∙ long,
     )
-
-same-length : tie.Need-same-length Inv-loop μ-loop
-same-length c = c .before .loop .inv .2
 
 returns : tie.Need-returns Inv-loop μ-loop
 returns c =
@@ -44,11 +38,8 @@ write-blanks-spec =
     (tie.spec
     Inv-loop
     μ-loop
-    loop-holds
-    (λ c. omega arith)
-    (λ c. omega arith)
-    (λ c. omega arith)
-    (λ c. omega arith)
+    (λ c. (omega arith, sym (columns-end _ _ 0 32 0 (omega arith)), refl))
+    (λ c. omega arith) (λ c. omega arith) (λ c. omega arith) (λ c. omega arith)
     loop-again
-    same-length
+    (λ c. c .before .loop .inv .2)
     returns)

@@ -2,7 +2,7 @@
 -- written over what is there they give the result. No assumptions.
 use Prim.Native.Nat.{ℕ, _+_, _-_, _/_, _≤_}
 use mathlib.Core.List.{List}
-use mathlib.Core.Path.{_≡_, refl, sym, ap, _∙_, subst}
+use mathlib.Core.Path.{_≡_, refl, ap, _∙_}
 use native.Mathlib.Omega.{arith}
 use lib.ListN.{length}
 use Rattle.text.specs.Writes.{put}
@@ -23,26 +23,15 @@ Inv-loop out₀ at width mark n i₀ rest₀ out i rest =
 abbrev μ-loop : tie.MeasureT-loop
 μ-loop out₀ at width mark n i₀ rest₀ out i rest = i
 
-loop-holds : tie.Need-loop-holds Inv-loop μ-loop
-loop-holds c = (refl, c .before .pre .1, omega arith, refl, omega arith)
+-- The turn in which the last columns are written one by one, and where the loop has ended.
+abbrev singles : tie.After-write-singles Inv-loop μ-loop → tie.At-loop Inv-loop μ-loop
+singles c = c .before .before .before .before
 
-write-singles-requires : tie.Need-write-singles-requires Inv-loop μ-loop
-write-singles-requires c κs =
-    let now = c .before .before .before .loop in (omega (arith, now .inv .2, now .inv .3), now .inv .1)
-
-same-length : tie.Need-same-length Inv-loop μ-loop
-same-length c =
-    let at-singles = c .before .before in
-    at-singles .write-singles .kept .0 ∙ at-singles .before .before .before .before .loop .inv .3
+abbrev ended : tie.After-write-below-10000 Inv-loop μ-loop → tie.At-loop Inv-loop μ-loop
+ended c = c .before .before .before
 
 returns : tie.Need-returns Inv-loop μ-loop
-returns c =
-    let at-singles = c .before .before in
-    at-singles .write-singles .ensures ∙ at-singles .before .before .before .before .loop .inv .0
-
-write-four-requires : tie.Need-write-four-requires Inv-loop μ-loop
-write-four-requires c κs =
-    let now = c .before .before .before .loop in (omega arith, omega (arith, now .inv .2, now .inv .3))
+returns c = let called = c .before .before in called .write-singles .ensures ∙ singles called .loop .inv .0
 
 loop-again : tie.Need-loop-again Inv-loop μ-loop
 loop-again c =
@@ -53,31 +42,18 @@ loop-again c =
     let (left, blank, within, long, small) = now .inv in
     let i = now .i - 4 in
     let written : at-four .write-four .last .0 ≡ put (now .out) (args .at + i) (four (now .rest)) =
-    at-four .write-four .ensures ∙ ap (put (now .out) (args .at + i)) (four-last (now .rest) (now .rest / 10000) refl) in (
+    rw (four-last (now .rest)) at (at-four .write-four .ensures) in (
       ap (λ (l : List ℕ). put l (args .at) (columns i (args .mark) (now .rest / 10000))) written
           ∙ four-turn (now .out) (args .at) (now .i) (args .mark) (now .rest) (omega arith) (omega arith) (omega arith)
           ∙ left,
-      subst (λ (l : List ℕ). Blank l (args .at) i) (sym written)
-          (blank-put (now .out) (args .at) (now .i) i (args .at + i) (four (now .rest)) blank
-          (omega arith) (omega arith) (omega arith)),
+      blank-put (now .out) _ _ _ _ _ _ blank (omega arith) (omega arith) (omega arith) written,
       omega arith,
       at-four .write-four .kept .0 ∙ long,
       omega arith,
     )
 
-write-below-10000-requires : tie.Need-write-below-10000-requires Inv-loop μ-loop
-write-below-10000-requires c κs =
-    let now = c .before .before .loop in ((omega arith, omega (arith, now .inv .2, now .inv .3)), now .inv .1)
-
-same-length-2 : tie.Need-same-length-2 Inv-loop μ-loop
-same-length-2 c =
-    let at-rest = c .before .before in
-    at-rest .write-below-10000 .kept .0 ∙ at-rest .before .before .before .loop .inv .3
-
 returns-2 : tie.Need-returns-2 Inv-loop μ-loop
-returns-2 c =
-    let at-rest = c .before .before in
-    at-rest .write-below-10000 .ensures ∙ at-rest .before .before .before .loop .inv .0
+returns-2 c = let called = c .before .before in called .write-below-10000 .ensures ∙ ended called .loop .inv .0
 
 pub write-columns-spec : {M : Type 1} → statement M
 write-columns-spec =
@@ -85,18 +61,15 @@ write-columns-spec =
     (tie.spec
     Inv-loop
     μ-loop
-    loop-holds
-    write-singles-requires
-    same-length
+    (λ c. (refl, c .before .pre .1, omega arith, refl, omega arith))
+    (λ c κs. let inv = c .before .before .before .loop .inv in (omega (arith, inv .2, inv .3), inv .1))
+    (λ c. let called = c .before .before in called .write-singles .kept .0 ∙ singles called .loop .inv .3)
     returns
-    (λ c. omega arith)
-    (λ c. omega arith)
-    (λ c. omega arith)
-    (λ c. omega arith)
-    write-four-requires
+    (λ c. omega arith) (λ c. omega arith) (λ c. omega arith) (λ c. omega arith)
+    (λ c κs. let inv = c .before .before .before .loop .inv in (omega arith, omega (arith, inv .2, inv .3)))
     (λ c. omega arith)
     loop-again
     (λ c. omega arith)
-    write-below-10000-requires
-    same-length-2
+    (λ c κs. let inv = c .before .before .loop .inv in ((omega arith, omega (arith, inv .2, inv .3)), inv .1))
+    (λ c. let called = c .before .before in called .write-below-10000 .kept .0 ∙ ended called .loop .inv .3)
     returns-2)

@@ -1,4 +1,4 @@
--- `reading::counted` meets its contract: no digit, a number that is too large, or one within the limits or not.
+-- `reading::counted` meets its contract: no digit, a value that is too large, or one within the limits or not.
 -- No assumptions.
 use mathlib.Core.Path.{_≡_, sym, ap, ap₂, _∙_}
 use borrow.Author.Needs.{needs}
@@ -10,43 +10,30 @@ use Rattle.text_reading.proofs.DigitLoop.{counted-none, counted-large, 
 use Rattle.text_reading.proofs.reading.counted.Statement.{statement}
 use Rattle.text_reading.proofs.reading.counted.Tie as tie
 
--- No digit.
-returns : tie.Need-returns
-returns c =
-    let args = c .before .before .args in
-    c .none .ensures ∙ sym (counted-none (args .lowest) (args .highest) (args .mark) (args .size) (c .before .if1 .taken))
-
--- Too large.
-returns-2 : tie.Need-returns-2
-returns-2 c =
-    let args = c .before .before .before .args in
-    c .none2 .ensures ∙ sym (counted-large (args .lowest) (args .highest) (args .mark) (args .size) (c .before .if2 .taken))
-
--- The number, within the limits or not.
+-- The value, within the limits or not.
 returns-3 : tie.Need-returns-3
 returns-3 c =
     let at-signed = c .before in
     let at-large = at-signed .before in
     let at-start = at-large .before .before in
     let args = at-start .args in
-    let number : kept (at-signed .signed .result) ≡ signed (args .mark) (args .size) =
+    let value : kept (at-signed .signed .result) ≡ signed (args .mark) (args .size) =
     result-is _ (at-signed .signed .ensures) (at-signed .signed .ok) in
     c .within .ensures
     ∙ ap₂ (λ (l h : ℤ). within l h (kept (at-signed .signed .result)))
     (toZ-ofZ (at-start .fits .lowest)) (toZ-ofZ (at-start .fits .highest))
-    ∙ ap (within (args .lowest) (args .highest)) number
-    ∙ sym
-    (counted-within (args .lowest) (args .highest) (args .mark) (args .size)
-    (at-large .before .if1 .left) (at-large .if2 .left))
+    ∙ ap (within (args .lowest) (args .highest)) value
+    ∙ sym (counted-within _ _ (args .mark) _ (at-large .before .if1 .left) (at-large .if2 .left))
 
 pub counted-spec : {M : Type 1} → statement M
 counted-spec =
     tie.close
     (tie.spec
     (λ c κs. search needs)
-    returns
+    -- No digit.
+    (λ c. c .none .ensures ∙ sym (counted-none _ _ (c .before .before .args .mark) _ (c .before .if1 .taken)))
     (λ c κs. search needs)
-    returns-2
-    (λ c κs. search needs)
-    (λ c κs. search needs)
+    -- Too large.
+    (λ c. c .none2 .ensures ∙ sym (counted-large _ _ (c .before .before .before .args .mark) _ (c .before .if2 .taken)))
+    (λ c κs. search needs) (λ c κs. search needs)
     returns-3)

@@ -1,4 +1,4 @@
--- `reading::signed` meets its contract: the number, negated after a minus. No assumptions.
+-- `reading::signed` meets its contract: the value, negated after a minus. No assumptions.
 use Prim.Native.Nat.{ℕ, zero, suc, _≤_}
 use mathlib.Core.Path.{_≡_, refl, sym, ap, _∙_, subst}
 use native.Mathlib.Omega.{arith}
@@ -23,9 +23,6 @@ module _ (n : ℕ) (h : n ≤ 1_000_000_000_000_000_009) where
   negated-fits : SFits w64 (pos 0 -ℤ toZ w64 n)
   negated-fits = subst (λ (t : ℤ). SFits w64 t) (sym negated) (neg-fits n refl)
 
-sub-result : tie.Need-sub-result
-sub-result c = negated-fits (c .before .args .size) (omega arith)
-
 -- After a minus.
 returns : tie.Need-returns
 unfolding signed
@@ -38,4 +35,11 @@ unfolding signed
 returns-2 c = rw (ne-eqb _ _ (c .if1 .left)) (toZ-pos w64 {n = c .before .args .size} (omega arith))
 
 pub signed-spec : {M : Type 1} → statement M
-signed-spec = tie.close (tie.spec (λ c. search needs) sub-result (λ c. search needs) returns returns-2)
+signed-spec =
+    tie.close
+    (tie.spec
+    (λ c. search needs)
+    (λ c. negated-fits (c .before .args .size) (omega arith))
+    (λ c. search needs)
+    returns
+    returns-2)

@@ -4,7 +4,8 @@ use mathlib.Core.List.{[], _∷_}
 use native.Mathlib.Omega.{arith}
 use lib.IntN.{ℤ}
 use Rattle.numeric.proofs.Machine.{kept-is, result-is}
-use Rattle.stoichiometry.specs.Substances.{ss, si, xh, xn1, xn2, xalg, xs, xi, Substance, organic, nh4, no2, no3, hpo4, o2, hco3, hPlus, xp, h2o, n2}
+use Rattle.stoichiometry.specs.Substances.{ss, si, xh, xn1, xn2, xalg, xs, xi, Substance, organic, nh4, no2, no3}
+use Rattle.stoichiometry.specs.Substances.{hpo4, o2, hco3, hPlus, xp, h2o, n2}
 use Rattle.totals.specs.Inner.TotalsCode.{partOf, weightsOf}
 use Rattle.totals.proofs.cell_totals.weights.Statement.{statement}
 use Rattle.totals.proofs.cell_totals.weights.Tie as tie
@@ -56,32 +57,10 @@ pub weights-spec : {M : Type 1} → statement M
 weights-spec =
     tie.close
     (tie.spec
-    (λ c κs. omega arith)
-    (λ c κs. omega arith)
-    (λ c. omega arith)
-    (λ c. omega arith)
-    (λ c. omega arith)
-    (λ c. omega arith)
-    (λ c. omega arith)
-    (λ c. omega arith)
-    (λ c. omega arith)
-    (λ c. omega arith)
-    (λ c. omega arith)
-    (λ c. omega arith)
-    (λ c. omega arith)
-    (λ c. omega arith)
-    (λ c. omega arith)
-    (λ c. omega arith)
-    (λ c κs. omega arith)
-    (λ c κs. omega arith)
-    (λ c κs. omega arith)
-    (λ c κs. omega arith)
-    (λ c κs. omega arith)
-    (λ c κs. omega arith)
-    (λ c. omega arith)
-    (λ c. omega arith)
-    (λ c. omega arith)
-    (λ c. omega arith)
-    (λ c. omega arith)
-    (λ c. omega arith)
+    (λ c κs. omega arith) (λ c κs. omega arith) (λ c. omega arith) (λ c. omega arith) (λ c. omega arith)
+    (λ c. omega arith) (λ c. omega arith) (λ c. omega arith) (λ c. omega arith) (λ c. omega arith)
+    (λ c. omega arith) (λ c. omega arith) (λ c. omega arith) (λ c. omega arith) (λ c. omega arith)
+    (λ c. omega arith) (λ c κs. omega arith) (λ c κs. omega arith) (λ c κs. omega arith) (λ c κs. omega arith)
+    (λ c κs. omega arith) (λ c κs. omega arith) (λ c. omega arith) (λ c. omega arith) (λ c. omega arith)
+    (λ c. omega arith) (λ c. omega arith) (λ c. omega arith)
     returns)

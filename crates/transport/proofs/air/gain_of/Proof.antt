@@ -14,11 +14,11 @@ use Rattle.numeric.proofs.Fitting.{Bounded, _&_, all, fit, abs-under}
 use Rattle.numeric.proofs.Machine.{asked, ran}
 use Rattle.numeric.proofs.Quotient.{abs-quot}
 use Rattle.stoichiometry.specs.Substances.{o2, grainsPerMicrogramO}
-use Rattle.stoichiometry.specs.Levels.{levelOf}
+use Rattle.stoichiometry.specs.Levels.{levelOf, mostLevel}
 use Rattle.transport.specs.Air.{gain}
 use Rattle.stoichiometry.specs.Limits.{mostSaturation}
 use Rattle.river.proofs.Levels.{level-bound}
-use Rattle.transport.proofs.AirLaws.{exchanged-bound, constant-bound, seconds-bound, saturation-bound}
+use Rattle.transport.proofs.AirLaws.{AirFigures, air-figures, exchanged-bound}
 use Rattle.transport.proofs.air.gain_of.Statement.{statement}
 use Rattle.transport.proofs.air.gain_of.Tie as tie
 
@@ -26,29 +26,28 @@ level-is : (c : tie.After-oxygen-level) → c .oxygen-level .result ≡ pos (lev
 level-is c =
     c .oxygen-level .ensures ∙ ap (λ (z : ℤ). pos (levelOf o2 z)) (toZ-ofZ (c .before .before .fits .amount))
 
+figures : (c : tie.Start) → AirFigures (c .args .constant) (c .args .seconds) (c .args .saturation)
+figures c = air-figures _ _ _ (c .pre .0)
+
 -- The saturation and the level.
 known : (c : tie.After-oxygen-level)
-    → Bounded (c .before .wide .result ∷ c .oxygen-level .result ∷ []) (mostSaturation ∷ 1024065540 ∷ [])
+    → Bounded (c .before .wide .result ∷ c .oxygen-level .result ∷ []) (mostSaturation ∷ mostLevel ∷ [])
 known c =
     let start = c .before .before in
-    let a = start .args in
     let saturation : natAbs (c .before .wide .result) ≤ mostSaturation =
-    rw (c .before .wide .ensures) (saturation-bound (a .constant) (a .seconds) (a .saturation) (start .pre .0)) in
-    let level : natAbs (c .oxygen-level .result) ≤ 1024065540 =
-    rw (level-is c) (level-bound o2 (a .amount) (start .pre .1)) in
+    rw (c .before .wide .ensures) (figures start .most) in
+    let level : natAbs (c .oxygen-level .result) ≤ mostLevel =
+    rw (level-is c) (level-bound o2 (start .args .amount) (start .pre .1)) in
     saturation & level & all
 
 -- The part that is exchanged, the saturation and the level.
 all-known : (c : tie.After-exchanged-part)
     → Bounded (c .exchanged-part .result ∷ c .before .before .wide .result ∷ c .before .oxygen-level .result ∷ [])
-    (833333333 ∷ mostSaturation ∷ 1024065540 ∷ [])
+    (833333333 ∷ mostSaturation ∷ mostLevel ∷ [])
 all-known c =
-    let start = c .before .before .before in
-    let a = start .args in
-    let k-le = constant-bound (a .constant) (a .seconds) (a .saturation) (start .pre .0) in
-    let seconds-le = seconds-bound (a .constant) (a .seconds) (a .saturation) (start .pre .0) in
+    let f = figures (c .before .before .before) in
     let part : natAbs (c .exchanged-part .result) ≤ 833333333 =
-    rw (c .exchanged-part .ensures) (exchanged-bound (a .constant) (a .seconds) k-le seconds-le) in
+    rw (c .exchanged-part .ensures) (exchanged-bound _ _ (f .constant) (f .time)) in
     part & known (c .before)
 
 -- The difference times the part, in billionths, and the µg that are exchanged, by what the calls answered.
@@ -63,20 +62,6 @@ moved-known c =
     let most = abs-under (all-known c) ((v 1 ⊖ v 2) ⊗ v 0) 870054616318644820 tt in
     let small : natAbs (moved c) ≤ 870054616 = omega (arith, abs-quot (product c) 1000000000) in
     small & all
-
-sub-difference : tie.Need-sub-difference
-sub-difference c = asked (known c) (v 0 ⊖ v 1) tt
-
-exchanged-part-requires : tie.Need-exchanged-part-requires
-exchanged-part-requires c κs =
-    let start = c .before .before in
-    let a = start .args in (
-      constant-bound (a .constant) (a .seconds) (a .saturation) (start .pre .0),
-      seconds-bound (a .constant) (a .seconds) (a .saturation) (start .pre .0),
-    )
-
-mul-result : tie.Need-mul-result
-mul-result c = asked (all-known c) ((v 1 ⊖ v 2) ⊗ v 0) tt
 
 div-result : tie.Need-div-result
 div-result c = rw (ran (all-known c) ((v 1 ⊖ v 2) ⊗ v 0) tt) (lit< tt, fit (moved-known c) (v 0) tt)
@@ -100,11 +85,10 @@ pub gain-of-spec : {M : Type 1} → statement M
 gain-of-spec =
     tie.close
     (tie.spec
-    (λ c κs. search needs)
-    (λ c κs. search needs)
-    sub-difference
-    exchanged-part-requires
-    mul-result
+    (λ c κs. search needs) (λ c κs. search needs)
+    (λ c. asked (known c) (v 0 ⊖ v 1) tt)
+    (λ c κs. let f = figures (c .before .before) in (f .constant, f .time))
+    (λ c. asked (all-known c) ((v 1 ⊖ v 2) ⊗ v 0) tt)
     div-result
     mul-result-2
     returns)

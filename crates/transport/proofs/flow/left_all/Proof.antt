@@ -1,6 +1,6 @@
 -- `flow::left_all` meets its contract. The loop's invariant: the first k elements are what passes of the first k
 -- amounts. No assumptions.
-use Prim.Native.Nat.{ℕ, _-_, _*_}
+use Prim.Native.Nat.{_-_, _*_}
 use native.Mathlib.Omega.{arith}
 use mathlib.Core.Path.{refl}
 use lib.ListN.{getD}
@@ -15,13 +15,11 @@ use Rattle.transport.proofs.flow.left_all.Statement.{statement}
 use Rattle.transport.proofs.flow.left_all.Tie as tie
 
 abbrev Inv-loop : tie.InvT-loop
-Inv-loop amounts part left₀ k₀ left k = Filled (mostCells * substances) k (λ (j : ℕ). passing part (getD amounts j (pos 0))) left
+Inv-loop amounts part left₀ k₀ left k =
+    Filled (mostCells * substances) k (λ j. passing part (getD amounts j (pos 0))) left
 
 abbrev μ-loop : tie.MeasureT-loop
 μ-loop amounts part left₀ k₀ left k = mostCells * substances - k
-
-loop-holds : tie.Need-loop-holds Inv-loop μ-loop
-loop-holds c = fill-none (mostCells * substances) _ _ refl
 
 passed-requires : tie.Need-passed-requires Inv-loop μ-loop
 passed-requires c κs =
@@ -45,13 +43,9 @@ left-all-spec =
     (tie.spec
     Inv-loop
     μ-loop
-    loop-holds
-    (λ c. omega arith)
-    (λ c. omega arith)
+    (λ c. fill-none (mostCells * substances) _ _ refl)
+    (λ c. omega arith) (λ c. omega arith)
     passed-requires
-    (λ c. omega arith)
-    (λ c. omega arith)
-    (λ c. omega arith)
-    (λ c. omega arith)
+    (λ c. omega arith) (λ c. omega arith) (λ c. omega arith) (λ c. omega arith)
     loop-again
     returns)

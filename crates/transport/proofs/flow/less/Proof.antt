@@ -10,11 +10,8 @@ use Rattle.transport.proofs.flow.less.Tie as tie
 known : (c : tie.Start) → Bounded (c .args .amount ∷ c .args .left ∷ []) (mostNet ∷ mostNet ∷ [])
 known c = c .pre .0 & c .pre .1 & all
 
-sub-result : tie.Need-sub-result
-sub-result c = asked (known c) (v 0 ⊖ v 1) tt
-
 returns : tie.Need-returns
 returns c = ran (known c) (v 0 ⊖ v 1) tt
 
 pub less-spec : {M : Type 1} → statement M
-less-spec = tie.close (tie.spec sub-result returns)
+less-spec = tie.close (tie.spec (λ c. asked (known c) (v 0 ⊖ v 1) tt) returns)

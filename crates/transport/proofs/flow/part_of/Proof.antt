@@ -1,4 +1,4 @@
--- `flow::part_of` meets its contract: the quotient times the part is at most the number, the remainder times it at most
+-- `flow::part_of` meets its contract: the quotient times the part is at most the size, the remainder times it at most
 -- 10^8, and the sum is the quotient of the product (quot-split). No assumptions.
 use Prim.Native.Nat.{ℕ, _+_, _*_, _/_, _%_, _≤_}
 use mathlib.Core.Path.{_≡_, ap}
@@ -16,18 +16,18 @@ parts m w = ap natAbs (quot-split (pos m) w 10000 (lit< tt))
 times-le : (m w : ℕ) → w ≤ 10000 → m * w ≤ m * 10000
 times-le m w h = mul-le-mul-left m h
 
-mul-result : tie.Need-mul-result
-mul-result c = omega (arith, times-le (c .args .number / 10000) (c .args .part) (c .pre))
-
-mul-result-2 : tie.Need-mul-result-2
-mul-result-2 c = omega (arith, times-le (c .args .number % 10000) (c .args .part) (c .pre))
-
 add-result : tie.Need-add-result
 add-result c =
-    omega (arith, parts (c .args .number) (c .args .part), times-le (c .args .number) (c .args .part) (c .pre))
+    omega (arith, parts (c .args .size) (c .args .part), times-le (c .args .size) (c .args .part) (c .pre))
 
 returns : tie.Need-returns
-returns c = parts (c .args .number) (c .args .part)
+returns c = parts (c .args .size) (c .args .part)
 
 pub part-of-spec : {M : Type 1} → statement M
-part-of-spec = tie.close (tie.spec mul-result mul-result-2 add-result returns)
+part-of-spec =
+    tie.close
+    (tie.spec
+    (λ c. omega (arith, times-le (c .args .size / 10000) (c .args .part) (c .pre)))
+    (λ c. omega (arith, times-le (c .args .size % 10000) (c .args .part) (c .pre)))
+    add-result
+    returns)

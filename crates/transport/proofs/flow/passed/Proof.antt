@@ -1,6 +1,6 @@
 -- `flow::passed` meets its contract: below zero the part of the size is taken of the negated amount, and negated again.
 -- No assumptions.
-use Prim.Native.Nat.{_<_, _^_}
+use Prim.Native.Nat.{ℕ, _<_, _^_}
 use mathlib.Core.List.{[], _∷_}
 use mathlib.Core.Path.{_≡_, _∙_}
 use native.Mathlib.Omega.{arith}
@@ -34,34 +34,25 @@ below c = bits-lt (c .before .fits .amount) (sfits-lit {z = pos 0} tt) (c .if1 .
 above : (c : tie.Else1) → pos 0 ≤ℤ c .before .args .amount
 above c = bits-nlt (c .before .fits .amount) (sfits-lit {z = pos 0} tt) (c .if1 .left)
 
--- What `part_of` answered, and that it fits.
-part-below : (c : tie.After-part-of)
-    → c .part-of .result ≡ share (c .before .before .args .part) (natAbs (c .before .before .args .amount))
+-- What `part_of` answered, and that the part of the size fits.
+abbrev part : tie.Start → ℕ
+part c = share (c .args .part) (natAbs (c .args .amount))
+
+part-below : (c : tie.After-part-of) → c .part-of .result ≡ part (c .before .before)
 part-below c =
     let at-start = c .before .before in
     c .part-of .ensures ∙ rw (ran (known at-start) (⊝ (v 0)) tt, abs-neg (at-start .args .amount))
 
-part-above : (c : tie.After-part-of2)
-    → c .part-of2 .result ≡ share (c .before .before .args .part) (natAbs (c .before .before .args .amount))
+part-above : (c : tie.After-part-of2) → c .part-of2 .result ≡ part (c .before .before)
 part-above c = c .part-of2 .ensures ∙ rw (toZ-ofZ (c .before .before .fits .amount))
 
-part-fits : (c : tie.After-part-of) → c .part-of .result < 2 ^ 63
-part-fits c =
-    let at-start = c .before .before in
-    omega (arith, part-below c, share-le (at-start .args .part) (natAbs (at-start .args .amount)) (at-start .pre .0))
+part-fits : (c : tie.Start) → part c < 2 ^ 63
+part-fits c = omega (arith, share-le (c .args .part) (natAbs (c .args .amount)) (c .pre .0))
 
-part-fits-2 : (c : tie.After-part-of2) → c .part-of2 .result < 2 ^ 63
-part-fits-2 c =
-    let at-start = c .before .before in
-    omega (arith, part-above c, share-le (at-start .args .part) (natAbs (at-start .args .amount)) (at-start .pre .0))
-
-minus-fits : (c : tie.After-part-of) → SFits w64 (pos 0 -ℤ pos (c .part-of .result))
+minus-fits : (c : tie.Start) → SFits w64 (pos 0 -ℤ pos (part c))
 minus-fits c =
-    let result = pos (c .part-of .result) in
-    rw (+ℤ-idl (negℤ result)) (fits-abs (negℤ result) (omega (arith, abs-neg result, part-fits c)))
-
-sub-part-of : tie.Need-sub-part-of
-sub-part-of c = asked (known (c .before)) (⊝ (v 0)) tt
+    let negated = negℤ (pos (part c)) in
+    rw (+ℤ-idl negated) (fits-abs negated (omega (arith, abs-neg (pos (part c)), part-fits c)))
 
 cast-part-of : tie.Need-cast-part-of
 cast-part-of c =
@@ -69,23 +60,16 @@ cast-part-of c =
     let back = ran (known (c .before)) (⊝ (v 0)) tt in
     (rw back (negated-nonNeg amount (below c)), rw back (omega (arith, abs-neg amount)))
 
-cast-result : tie.Need-cast-result
-cast-result c = fits-abs (pos (c .part-of .result)) (part-fits c)
-
-sub-result : tie.Need-sub-result
-sub-result c = rw (toZ-pos w64 (part-fits c)) (minus-fits c)
-
 -- Below zero.
 returns : tie.Need-returns
 returns c =
-    let args = c .before .before .args in
-    let result = pos (c .part-of .result) in
+    let start = c .before .before in
     rw (
-      toZ-pos w64 (part-fits c),
-      toZ-ofZ (minus-fits c),
-      +ℤ-idl (negℤ result),
       part-below c,
-      passing-below (args .part) (args .amount) (below (c .before)),
+      toZ-pos w64 (part-fits start),
+      toZ-ofZ (minus-fits start),
+      +ℤ-idl (negℤ (pos (part start))),
+      passing-below (start .args .part) (start .args .amount) (below (c .before)),
     )
 
 cast-part-of-2 : tie.Need-cast-part-of-2
@@ -93,26 +77,27 @@ cast-part-of-2 c =
     let back = toZ-ofZ (c .before .fits .amount) in
     (rw back (yes-nonNeg (above c)), rw back (omega arith))
 
-cast-result-2 : tie.Need-cast-result-2
-cast-result-2 c = fits-abs (pos (c .part-of2 .result)) (part-fits-2 c)
-
 -- From zero on.
 returns-2 : tie.Need-returns-2
 returns-2 c =
-    let args = c .before .before .args in
-    rw (toZ-pos w64 (part-fits-2 c), part-above c, passing-above (args .part) (args .amount) (above (c .before)))
+    let start = c .before .before in
+    rw (
+      part-above c,
+      toZ-pos w64 (part-fits start),
+      passing-above (start .args .part) (start .args .amount) (above (c .before)),
+    )
 
 pub passed-spec : {M : Type 1} → statement M
 passed-spec =
     tie.close
     (tie.spec
-    sub-part-of
+    (λ c. asked (known (c .before)) (⊝ (v 0)) tt)
     cast-part-of
     (λ c κs. search needs)
-    cast-result
-    sub-result
+    (λ c. rw (part-below c) (fits-abs _ (part-fits (c .before .before))))
+    (λ c. rw (part-below c, toZ-pos w64 (part-fits (c .before .before))) (minus-fits (c .before .before)))
     returns
     cast-part-of-2
     (λ c κs. search needs)
-    cast-result-2
+    (λ c. rw (part-above c) (fits-abs _ (part-fits (c .before .before))))
     returns-2)

@@ -6,18 +6,20 @@ use native.Mathlib.Nat.{zero-add}
 use native.Mathlib.Omega.{arith}
 use borrow.Author.Needs.{sfits-of}
 use lib.ListN.{getD, set}
-use lib.IntN.{pos, _-ℤ_}
+use lib.IntN.{pos}
 use mir.Facts.{toZ-ofZ}
 use Rattle.numeric.specs.Table.{run}
 use Rattle.numeric.proofs.Machine.{kept}
 use Rattle.numeric.proofs.Filling.{run-none, run-more, run-beyond}
 use Rattle.stoichiometry.specs.Substances.{substances}
 use Rattle.river.specs.Rivers.{mostCells}
+use Rattle.transport.specs.Inner.Stages.{AmountsWithin, staying}
 use Rattle.transport.proofs.flow.take_left.Statement.{statement}
 use Rattle.transport.proofs.flow.take_left.Tie as tie
 
 abbrev Inv-loop : tie.InvT-loop
-Inv-loop amounts₀ left k₀ amounts k = (k ≤ mostCells * substances) × (amounts ≡ run amounts₀ 0 k (λ (j : ℕ). getD amounts₀ j (pos 0) -ℤ getD left j (pos 0)))
+Inv-loop amounts₀ left k₀ amounts k =
+    (k ≤ mostCells * substances) × (amounts ≡ run amounts₀ 0 k (staying amounts₀ left))
 
 abbrev μ-loop : tie.MeasureT-loop
 μ-loop amounts₀ left k₀ amounts k = mostCells * substances - k
@@ -28,9 +30,6 @@ still : (c : tie.At-loop Inv-loop μ-loop)
 still c =
     ap (λ l. getD l (c .loop .k) (pos 0)) (c .loop .inv .1)
     ∙ run-beyond (c .before .args .amounts .now) 0 (c .loop .k) _ (c .loop .k) (pos 0) (omega arith)
-
-loop-holds : tie.Need-loop-holds Inv-loop μ-loop
-loop-holds c = (omega arith, run-none _ 0 _)
 
 less-requires : tie.Need-less-requires Inv-loop μ-loop
 less-requires c κs =
@@ -69,15 +68,9 @@ take-left-spec =
     (tie.spec
     Inv-loop
     μ-loop
-    loop-holds
-    (λ c. omega arith)
-    (λ c. omega arith)
-    (λ c. omega arith)
-    (λ c. omega arith)
+    (λ c. (omega arith, run-none _ 0 _))
+    (λ c. omega arith) (λ c. omega arith) (λ c. omega arith) (λ c. omega arith)
     less-requires
-    (λ c. omega arith)
-    (λ c. omega arith)
-    (λ c. omega arith)
-    (λ c. omega arith)
+    (λ c. omega arith) (λ c. omega arith) (λ c. omega arith) (λ c. omega arith)
     loop-again
     returns)

@@ -11,11 +11,8 @@ use Rattle.transport.proofs.flow.with.Tie as tie
 known : (c : tie.Start) → Bounded (c .args .stayed ∷ c .args .came ∷ []) (2 * mostNet ∷ mostNet ∷ [])
 known c = c .pre .0 & c .pre .1 & all
 
-add-result : tie.Need-add-result
-add-result c = asked (known c) (v 0 ⊕ v 1) tt
-
 returns : tie.Need-returns
 returns c = ran (known c) (v 0 ⊕ v 1) tt
 
 pub with-spec : {M : Type 1} → statement M
-with-spec = tie.close (tie.spec add-result returns)
+with-spec = tie.close (tie.spec (λ c. asked (known c) (v 0 ⊕ v 1) tt) returns)
