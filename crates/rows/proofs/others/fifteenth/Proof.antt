@@ -15,8 +15,9 @@ use Rattle.rows.proofs.others.fifteenth.Tie as tie
 -- All fields are read first, so every need has the same context.
 abbrev start : tie.After-struct-told9 → tie.Start
 start c =
-    let after-r = c .before .before .before .before in
-    after-r .before .before .before .before .before
+    let told5 = c .before .before .before .before in
+    let told1 = told5 .before .before .before .before in
+    told1 .before
 
 known : (c : tie.After-struct-told9) → Bounded (atoms (start c .args .r) (start c .args .k) []) (limits [])
 known c = atoms-bounded (start c .pre .0) (start c .pre .1) all

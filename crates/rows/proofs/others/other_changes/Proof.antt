@@ -17,8 +17,9 @@ use Rattle.rows.proofs.others.other_changes.Tie as tie
 -- All fields are read first, so every need has the same context.
 abbrev start : tie.After-struct-told12 → tie.Start
 start c =
-    let after-r = c .before .before .before .before .before .before .before .before in
-    after-r .before .before .before .before
+    let told8 = c .before .before .before .before in
+    let told4 = told8 .before .before .before .before in
+    told4 .before .before .before .before
 
 known :
     (c : tie.After-struct-told12) →

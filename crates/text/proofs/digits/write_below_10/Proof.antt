@@ -28,7 +28,8 @@ write-mark-requires-2 c κs =
 returns-3 : tie.Need-returns-3
 returns-3 c =
     let at-mark = c .before .before in
-    let start = at-mark .before .before .before .before .before in
+    let stored = at-mark .before .before .before in
+    let start = stored .before .before in
     let args = start .args in
     at-mark .write-mark2 .ensures
     ∙ digit-turn (args .out .now) (args .at) (args .width) (args .mark) (args .n)

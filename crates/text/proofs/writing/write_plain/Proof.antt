@@ -24,7 +24,8 @@ write-mark-requires c κs =
 same-length : tie.Need-same-length
 same-length c =
     let at-mark = c .before .before in
-    at-mark .write-mark .kept .0 ∙ simp length-set (long (at-mark .before .before .before .before .before))
+    let stored = at-mark .before .before .before in
+    at-mark .write-mark .kept .0 ∙ simp length-set (long (stored .before .before))
 
 returns : tie.Need-returns
 returns c =
