@@ -3,7 +3,7 @@
 use Prim.Native.Nat.{ℕ, _*_, _/_, _%_}
 use mathlib.Core.List.{List, [], _∷_}
 use mathlib.Core.Path.{_≡_, refl, ap}
-use lib.IntN.{ℤ, pos, negℤ, _+ℤ_, _*ℤ_}
+use lib.IntN.{pos}
 use Rattle.numeric.proofs.TableLaws.{tab-eq}
 use Rattle.stoichiometry.specs.declared.Fractions.{Fractions}
 use Rattle.stoichiometry.specs.declared.Set.{Set}

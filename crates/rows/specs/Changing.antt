@@ -1,7 +1,7 @@
 -- Which substances a process can change, whatever the set's figures (scope, "Rows, per batch"), and what that says of
 -- the entries of rows: all others are 0. That the rows of every set are so: proofs/RowZeros.antt. No assumptions.
 use Prim.Native.Nat.{ℕ, zero, suc, _+_, _*_, _/_, _%_, _<_}
-use mathlib.Core.Bool.{Bool, true, false, _||_}
+use mathlib.Core.Bool.{Bool, false, _||_}
 use mathlib.Core.List.{List, [], _∷_, _++_, map}
 use mathlib.Core.Path.{_≡_}
 use lib.Dec.{eqb}

@@ -1,5 +1,4 @@
 -- `rows::processes::batches` meets its contract: the sizes are those of the processes. No assumptions.
-use mathlib.Core.Path.{refl}
 use borrow.Author.Needs.{needs}
 use Rattle.numeric.specs.Table.{tab}
 use Rattle.stoichiometry.specs.Rows.{processesOf, processAt}
