@@ -9,6 +9,7 @@ pub mod book;
 pub mod extents;
 pub mod frame;
 pub mod lists;
+pub mod page;
 pub mod record;
 pub mod river;
 pub mod rows;
@@ -49,4 +50,6 @@ pub mod refusal {
     pub const BUFFER: u32 = 10;
     /// The text is not a record.
     pub const TEXT: u32 = 11;
+    /// The output is too short for the bank page.
+    pub const PAGE: u32 = 12;
 }

@@ -17,7 +17,7 @@ pub const CELL_BYTES: usize = LINE * LINES;
 const COLUMNS: usize = 20;
 
 /// Two-digit numbers, for writing digits in pairs.
-const PAIRS: [[u8; 2]; 100] = {
+pub(crate) const PAIRS: [[u8; 2]; 100] = {
     let mut pairs = [[b'0'; 2]; 100];
     let mut i = 0;
     while i < 100 {

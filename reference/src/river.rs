@@ -157,14 +157,20 @@ impl River {
             Ok(cell) => self.cell(cell),
             Err(number) => return (number, 0),
         };
-        let letter = if amounts[O2] / W_O < 2_000_000 {
-            b'L'
-        } else if amounts[NH4] / W_N > 1_000_000 {
-            b'N'
-        } else {
-            b'-'
-        };
-        (refusal::NONE, letter)
+        let (oxygen, ammonium) = (amounts[O2] / W_O, amounts[NH4] / W_N);
+        (refusal::NONE, letter_of(oxygen as u32, ammonium as u32))
+    }
+}
+
+/// The letter by the levels of O2 and NH4, in µg.
+#[inline]
+pub(crate) fn letter_of(oxygen: u32, ammonium: u32) -> u8 {
+    if oxygen < 2_000_000 {
+        b'L'
+    } else if ammonium > 1_000_000 {
+        b'N'
+    } else {
+        b'-'
     }
 }
 

@@ -21,10 +21,11 @@
 //! | `W` lengths of output and work area | record written | both buffers, whole |
 //! | `D` | record read | the river read |
 //! | `I` cell | lines of a cell | how many bytes, the bytes |
+//! | `B` length of output | bank page written | the output, whole |
 //!
 //! `G` and 83 figures give the set ([`figures::set_of`] has their order). A river in a
 //! digest is its cells, all 144 amounts and all 136 carries. Before `W` the output
-//! is filled with 35, the work area with 42.
+//! is filled with 35, the work area with 42; before `B` the output is filled with 35.
 //!
 //! The river that a call answers is the next call's. A line with a small letter
 //! changes something for the next call alone, places counted from 0; after a call
@@ -45,6 +46,7 @@ pub mod figures;
 mod frames;
 mod lasting;
 mod limits;
+mod pages;
 mod records;
 mod rivers;
 pub mod scene;
@@ -56,7 +58,7 @@ pub mod uptakes;
 use scene::Scene;
 
 /// The letters of the calls, with a name for each.
-pub const KINDS: [(char, &str); 14] = [
+pub const KINDS: [(char, &str); 15] = [
     ('C', "set"),
     ('R', "rows"),
     ('P', "published"),
@@ -71,10 +73,11 @@ pub const KINDS: [(char, &str); 14] = [
     ('W', "write"),
     ('D', "read"),
     ('I', "lines"),
+    ('B', "page"),
 ];
 
 /// Numbers a call may answer: 0 for none, and the checks.
-pub const NUMBERS: usize = 12;
+pub const NUMBERS: usize = 13;
 
 /// All vectors.
 pub fn all() -> Scene {
@@ -92,6 +95,7 @@ pub fn all() -> Scene {
     lasting::evolving(&mut scene);
     frames::all(&mut scene);
     records::all(&mut scene);
+    pages::all(&mut scene);
     scene
 }
 

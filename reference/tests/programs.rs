@@ -1,8 +1,10 @@
-//! The programs: the fresh record, a record copied or refused, the balance.
+//! The programs: the fresh record, a record copied or refused, its bank page, the
+//! balance.
 
 mod common;
 
 use common::filled;
+use reference::page;
 use reference::record::write;
 use std::io::Write;
 use std::process::{Command, Output, Stdio};
@@ -38,6 +40,21 @@ fn copy_record() {
         assert_eq!(copy(&text[1..]), b"11\n");
     }
     assert_eq!(copy(b""), b"11\n");
+}
+
+#[test]
+fn bank_page() {
+    let page_of = |text: &[u8]| run(env!("CARGO_BIN_EXE_bank_page"), &[], text).stdout;
+    for cells in 1..=8 {
+        let length = cells as usize * 945;
+        let (mut text, mut work) = (vec![0; length], vec![0; length]);
+        assert_eq!(write(&filled(cells), &mut text, &mut work), 0);
+        let mut page = vec![0; cells as usize * 65];
+        assert_eq!(page::write(&filled(cells), &mut page), 0);
+        assert_eq!(page_of(&text), page);
+        assert_eq!(page_of(&text[1..]), b"11\n");
+    }
+    assert_eq!(page_of(b""), b"11\n");
 }
 
 #[test]

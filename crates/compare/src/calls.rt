@@ -8,6 +8,7 @@ use crate::digest::with_rows;
 use crate::digest::with_signed;
 use crate::frames;
 use crate::line::Line;
+use crate::pages;
 use crate::records;
 use crate::records::Text;
 use crate::set;
@@ -159,6 +160,7 @@ pub(crate) fn answer_of(line: Line, figures: Figures, river: River, text: Text) 
         b'T' => told(totals(line, figures, river), river),
         b'Y' => told(letter(line, river), river),
         b'W' => told(records::written(line, river), river),
+        b'B' => told(pages::written(line, river), river),
         _ => told(answer_of_text(line, text), river),
     }
 }

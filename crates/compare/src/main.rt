@@ -5,6 +5,7 @@ mod calls;
 mod digest;
 mod frames;
 mod line;
+mod pages;
 mod reading;
 mod records;
 mod scene;

@@ -11,14 +11,14 @@ use river::Changed;
 use river::River;
 
 // Room for more than a text of nine cells.
-const ROOM: usize = 8600;
+pub(crate) const ROOM: usize = 8600;
 
 pub(crate) struct Text {
     bytes: [u8; ROOM],
     length: usize,
 }
 
-fn within_room(n: usize) -> usize
+pub(crate) fn within_room(n: usize) -> usize
     ensures { λ r. ⌜ r ≤ 8600 ⌝ }
 {
     if n < ROOM { n } else { ROOM }

@@ -1,8 +1,8 @@
 // The counts of the calls and of equal answers, and the first difference.
 
-pub(crate) const KINDS: usize = 14;
+pub(crate) const KINDS: usize = 15;
 
-pub(crate) const NUMBERS: usize = 12;
+pub(crate) const NUMBERS: usize = 13;
 
 const COUNTS: usize = KINDS * NUMBERS;
 
@@ -20,7 +20,7 @@ pub(crate) struct Difference {
     pub got: Pair,
 }
 
-// Calls by kind and expected number, kind k with number n at k * 12 + n; equal answers by kind; lines so far.
+// Calls by kind and expected number, kind k with number n at k * NUMBERS + n; equal answers by kind; lines so far.
 pub(crate) struct Tally {
     pub counts: [u64; COUNTS],
     pub equal: [u64; KINDS],
@@ -33,7 +33,7 @@ const NOTHING: Pair = Pair {
     digest: 0,
 };
 
-// The place of a kind in the table, counted from 0; 14 for a letter that makes no call.
+// The place of a kind in the table, counted from 0; KINDS for a letter that makes no call.
 pub(crate) fn kind_of(letter: u8) -> usize {
     match letter {
         b'C' => 0,
@@ -50,6 +50,7 @@ pub(crate) fn kind_of(letter: u8) -> usize {
         b'W' => 11,
         b'D' => 12,
         b'I' => 13,
+        b'B' => 14,
         _ => KINDS,
     }
 }

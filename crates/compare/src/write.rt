@@ -48,7 +48,7 @@ fn write_kind(kind: usize) {
     } else if kind < KINDS {
         let at = (kind - 7) * 9;
         write_part(
-            b"step     totals   letter   frame    write    read     lines    ",
+            b"step     totals   letter   frame    write    read     lines    page     ",
             at,
             at + 9,
         );

@@ -1,16 +1,14 @@
--- What the writes leave in a buffer: one line, blocks of one width one after the other, the copy; and the number of a
--- write by its checks. No assumptions.
+-- What the writes leave in a buffer: one line, the copy; and the number of a write by its checks. No assumptions.
 use mathlib.Core.Path.{_≡_, refl, sym, ap, ap₂, _∙_}
 use mathlib.Core.Bool.{Bool, true, false, cond}
-use mathlib.Core.List.{List, [], _∷_, _++_, append-assoc, append-nil}
-use Prim.Native.Nat.{ℕ, _+_, _-_, _*_, _≤_, _<_}
-use native.Mathlib.Nat.{zero-add, add-zero}
-use native.Mathlib.Numerals.{add-one}
+use mathlib.Core.List.{List, [], _∷_, _++_, append-assoc}
+use Prim.Native.Nat.{ℕ, _+_, _*_, _≤_, _<_}
+use native.Mathlib.Nat.{add-zero}
 use native.Mathlib.Omega.{arith}
 use borrow.Author.Tests.{lt-ltb, le-ltb}
 use lib.Dec.{eqb}
-use lib.ListN.{length, take, drop, set, getD, length-append}
-use lib.Seq.{take-at, drop-drop, drop-length}
+use lib.ListN.{length, take, set, getD, length-append}
+use lib.Seq.{take-at}
 use lib.IntN.{ℤ}
 use Rattle.numeric.specs.Check.{firstHolding}
 use Rattle.numeric.specs.Table.{tab}
@@ -21,16 +19,11 @@ use Rattle.text.specs.Decimals.{plain, decimal}
 use Rattle.text.specs.Writes.{put, putWithin, copied}
 use Rattle.text.proofs.BlockLaws.{blocks-length, part-blocks, part-tab}
 use Rattle.text.proofs.DecimalLaws.{plain-length, decimal-length}
-use Rattle.text.proofs.WriteLaws.{put-length, put-within, copied-accepted, grow, store, sets-put}
+use Rattle.text.proofs.WriteLaws.{put-length, put-all, put-within, copied-accepted, grow, store, sets-put}
 use Rattle.record.specs.Lines.{lineBytes, cellBytes, front, line, recordOf}
 use Rattle.record.specs.Inner.Stages.{lineLabels}
 use Rattle.record.specs.Writing.{writeNumber, outputAfter, workAfter}
 use Rattle.record.proofs.LineLaws.{front-length, line-length, record-bytes}
-
--- A write over all of a buffer.
-put-all : (l xs : List ℕ) → length xs ≡ length l → put l 0 xs ≡ xs
-unfolding put
-put-all l xs e = rw (zero-add (length xs), e, drop-length l) (append-nil xs)
 
 -- The two columns of the label of line k.
 label-columns : (count k : ℕ) → k < count
@@ -72,28 +65,6 @@ line-written l l₁ l₂ cell k z long e₁ e₂ =
     let p₂ : l₂ ≡ put l 0 b =
     e₂ ∙ put-within l₁ 6 20 _ (decimal-length 20 z) (omega arith) ∙ grow l l₁ 0 6 6 a _ la refl (omega arith) e₁ in
     store l l₂ 0 26 26 10 b lb refl (omega arith) p₂ ∙ put-all l (line cell k z) (line-length cell k z ∙ sym long)
-
--- A part of a text in whose place stands another text of its length.
-pub part-written : (l mid xs : List ℕ) (at w : ℕ) → length xs ≡ w → mid ≡ xs
-    → take at l ++ (mid ++ drop (at + w - at) (drop at l)) ≡ put l at xs
-unfolding put
-part-written l mid xs at w long e =
-    let count : at + w - at ≡ w = omega arith in
-    rw (e, count, drop-drop w at l, long) refl
-
--- Blocks of one width: one more behind the first k, and all over a buffer of their length.
-module _ (w : ℕ) (f : ℕ → List ℕ) (each : (i : ℕ) → length (f i) ≡ w) (l₀ l : List ℕ) where
-  pub blocks-turn : (l₁ : List ℕ) (at m k : ℕ) → m ≡ at + k * w → at + k * w + w ≤ length l₀
-      → l ≡ put l₀ at (blocks k f)
-      → l₁ ≡ put l m (f k)
-      → l₁ ≡ put l₀ at (blocks (k + 1) f)
-  unfolding blocks
-  blocks-turn l₁ at m k em h e e₁ =
-      rw (add-one k) (e₁ ∙ grow l₀ l at (k * w) m (blocks k f) (f k) (blocks-length w k f each) em (omega arith) e)
-
-  pub blocks-written : (k n : ℕ) → k ≡ n → length l₀ ≡ n * w → l ≡ put l₀ 0 (blocks k f) → l ≡ blocks n f
-  blocks-written k n e long written =
-      rw e at written ∙ put-all l₀ (blocks n f) (blocks-length w n f each ∙ sym long)
 
 -- The number of a write, by the checks.
 module _ (r : River) (output work : ℕ) where

@@ -1,13 +1,14 @@
 -- The results, each stated whole and cited: demand 3; the published set is accepted; a text is a record or it is
--- refused; flow and air never need 8; any row balances; the starred cases. The definitions to believe stand in specs/
--- of the crates named in the `use` lines. No assumptions.
-use Prim.Native.Nat.{ℕ, _≤_}
+-- refused; a page shows what the river holds; flow and air never need 8; any row balances; the starred cases. The
+-- definitions to believe stand in specs/ of the crates named in the `use` lines. No assumptions.
+use Prim.Native.Nat.{ℕ, _+_, _-_, _*_, _/_, _≤_, _<_}
 use mathlib.Core.Bool.{true, false}
 use mathlib.Core.List.{List}
 use mathlib.Core.Logic.{_↔_, _⊎_}
 use mathlib.Core.Path.{_≡_, refl}
 use lib.Ieee.{round}
 use lib.IntN.{pos}
+use lib.ListN.{length, take, drop, getD}
 use Rattle.numeric.specs.Case.{AllHold}
 use Rattle.numeric.specs.Check.{every, allOf, firstHolding}
 use Rattle.numeric.specs.Sum.{sum}
@@ -30,7 +31,8 @@ use Rattle.kinetics.specs.Factors.{share, times}
 use Rattle.kinetics.specs.Rates.{takesPhosphate, takesNitrogen, ratesOf, rateAt, productAt, quotaAt, extentAt}
 use Rattle.river.specs.declared.River.{River}
 use Rattle.river.specs.Rivers.{mostCells, lowestAt, highestAt, amountFits, amountsFit, carriesFit, cellsFit, riverWrong}
-use Rattle.river.specs.Rivers.{zeroRiver, freshAnswer}
+use Rattle.river.specs.Rivers.{zeroRiver, freshAnswer, cellExists}
+use Rattle.river.specs.Cells.{letterAnswer}
 use Rattle.river.proofs.FreshLaws.{fresh-cells}
 use Rattle.transport.specs.Load.{loadNumber, loadAnswer}
 use Rattle.transport.specs.Flow.{passing, leftOf, movedOf, flowNumber, flowAnswer}
@@ -48,6 +50,9 @@ use Rattle.record_reading.specs.Reading.{readAnswer}
 use Rattle.record_reading.specs.Records.{IsRecordOf}
 use Rattle.record_reading.proofs.RecordLaws.{read-unique}
 use Rattle.record_reading.proofs.RecordTexts.{read-is-record, read-else-refused}
+use Rattle.text.specs.Blocks.{part}
+use Rattle.page.specs.Pages.{rowBytes, grams, levelsAt, rowOf, pageOf, IsRow, shownBy}
+use Rattle.page.proofs.PageLaws as Page
 use Rattle.results.specs.Starred.{starred}
 
 -- Demand 3: a fresh river of 1 to 8 cells is answered, and after every list of loads, flows, air exchanges and steps on
@@ -87,6 +92,30 @@ record-unique = read-unique
 pub record-refused : (t : List ℕ) → ((r : River) → IsRecordOf t r → ⊥)
     → readAnswer t ≡ record { number = 11; river = zeroRiver 0 }
 record-refused = read-else-refused
+
+-- A page has 65 bytes a cell. The row of a cell, counted from 1, begins at 65 × (cell − 1) and is 64 characters and a
+-- line feed.
+pub page-length : (r : River) → length (pageOf r) ≡ r .cells * rowBytes
+page-length = Page.page-length
+
+pub page-rows : (r : River) (cell : ℕ) → cellExists r cell ≡ true
+    → (part ((cell - 1) * rowBytes) rowBytes (pageOf r) ≡ rowOf (r .amounts) (cell - 1))
+    × IsRow (rowOf (r .amounts) (cell - 1))
+page-rows r cell exists = (Page.page-row r cell exists, Page.row-of-is (r .amounts) (cell - 1))
+
+-- The letter of a row is the one that `letter_of` answers.
+pub page-letter : (r : River) (cell : ℕ) → cellExists r cell ≡ true → riverWrong r ≡ false
+    → getD (pageOf r) ((cell - 1) * rowBytes + 3) 0 ≡ letterAnswer r cell .letter
+page-letter = Page.page-letter
+
+-- Each level of a river that check 4 passes takes at most 8 of its 10 columns: the first two are blank (32). It shows
+-- every digit, down to the thousandth of a gram.
+pub page-levels : (r : River) → riverWrong r ≡ false → (c : ℕ) → c < r .cells → (i : ℕ)
+    → let level = getD (levelsAt (r .amounts) c) i 0 in
+    let t = grams level in
+    (getD t 0 0 ≡ 32) × (getD t 1 0 ≡ 32)
+    × (shownBy 0 (take 6 t) * 1000 + shownBy 0 (drop 7 t) ≡ level / 1000)
+page-levels = Page.levels-shown
 
 -- Flow and air are never refused with 8.
 pub flow-never-8 : (r : River) (part : ℕ) → flowNumber r part ≡ 8 → ⊥

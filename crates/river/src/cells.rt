@@ -6,7 +6,7 @@ ghost use lib.Signed.{_≤ℤ_};
 ghost use Rattle.stoichiometry.specs.Substances.{o2, nh4};
 ghost use Rattle.stoichiometry.specs.Levels.{levelOf};
 ghost use Rattle.river.specs.Cells.{letterBy};
-use crate::Letter;
+use crate::letter_by;
 use stoichiometry::Set;
 
 // The level, µg, of an amount in grains, rounded down; weight: grains in one µg.
@@ -24,11 +24,8 @@ pub(crate) fn letter(oxygen: i64, ammonium: i64) -> u8
     requires { ⌜ pos 0 ≤ℤ ammonium ⌝ }
     ensures { λ r. ⌜ r ≡ letterBy (levelOf o2 oxygen) (levelOf nh4 ammonium) ⌝ }
 {
-    if level(oxygen, Set::GRAINS_PER_MICROGRAM_O as u64) < Letter::OXYGEN_LEAST {
-        Letter::LOW_OXYGEN
-    } else if Letter::AMMONIUM_MOST < level(ammonium, Set::GRAINS_PER_MICROGRAM_N as u64) {
-        Letter::HIGH_AMMONIUM
-    } else {
-        Letter::NEITHER
-    }
+    letter_by(
+        level(oxygen, Set::GRAINS_PER_MICROGRAM_O as u64),
+        level(ammonium, Set::GRAINS_PER_MICROGRAM_N as u64),
+    )
 }

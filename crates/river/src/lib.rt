@@ -1,7 +1,7 @@
 // The river: a train of 1 to 8 cells, by value; a fresh one, check 4, and the letter of a cell.
 ghost use mathlib.Core.Path.{_≡_};
 ghost use Rattle.river.specs.Rivers.{amountFits, amountsFit, riverFits, zeroRiver, freshAnswer};
-ghost use Rattle.river.specs.Cells.{letterAnswer};
+ghost use Rattle.river.specs.Cells.{letterBy, letterAnswer};
 use crate::carries::carries_fit;
 use crate::cells::letter;
 use numeric::in_range;
@@ -134,6 +134,19 @@ pub fn amounts_fit(cells: u32, amounts: &[i64; AMOUNTS]) -> bool
         amounts::amounts_fit(n, amounts)
     } else {
         amounts::amounts_fit(River::CELLS_MOST, amounts)
+    }
+}
+
+// The letter by the levels of O2 and NH4, µg, for a caller that has them.
+pub fn letter_by(oxygen: u64, ammonium: u64) -> u8
+    ensures answer { λ r. ⌜ r ≡ letterBy oxygen ammonium ⌝ }
+{
+    if oxygen < Letter::OXYGEN_LEAST {
+        Letter::LOW_OXYGEN
+    } else if Letter::AMMONIUM_MOST < ammonium {
+        Letter::HIGH_AMMONIUM
+    } else {
+        Letter::NEITHER
     }
 }
 

@@ -5,6 +5,7 @@ use crate::checksum::with;
 use crate::frames::readings;
 use crate::order::Order;
 use crate::records::BYTES;
+use crate::records::PAGE_BYTES;
 use crate::records::records_of;
 use crate::rivers::rivers;
 use crate::sets::sets;
@@ -12,6 +13,7 @@ use crate::turns::air_turn;
 use crate::turns::flow_turn;
 use crate::turns::frame_turn;
 use crate::turns::load_turn;
+use crate::turns::page_turn;
 use crate::turns::read_turn;
 use crate::turns::rows_turn;
 use crate::turns::step_turn;
@@ -29,6 +31,7 @@ pub(crate) fn checksum_of(asked: Order) -> u64 {
         b'w' => writes(asked.calls),
         b'R' => reads(asked.calls),
         b'p' => frames(asked.calls),
+        b'b' => pages(asked.calls),
         b'n' => turns(asked.calls),
         _ => 0,
     }
@@ -129,6 +132,19 @@ fn reads(calls: u64) -> u64 {
         let start = (turn % 8) as usize * BYTES;
         let end = start + BYTES;
         sum = read_turn(&texts[start..end], sum, turn);
+        turn += 1;
+    }
+    sum
+}
+
+fn pages(calls: u64) -> u64 {
+    let rivers = rivers();
+    let mut output = [0; PAGE_BYTES];
+    let mut sum = 0;
+    let mut turn = 0;
+    while turn < calls {
+        let k = (turn % 8) as usize;
+        sum = page_turn(rivers[k], &mut output, sum, turn);
         turn += 1;
     }
     sum

@@ -1,4 +1,5 @@
 // The checksum of answers. What it takes of an answer depends on the turn, so that no part of it can be left out.
+ghost use Prim.Native.Nat.{_<_};
 use numeric::magnitude;
 use river::AMOUNTS;
 use river::CARRIES;
@@ -40,4 +41,21 @@ pub(crate) fn wide(x: u32) -> u64 {
 pub(crate) fn with_carry(sum: u64, carries: &[u32; CARRIES], turn: u64) -> u64 {
     let k = (turn % 136) as usize;
     with(sum, wide(carries[k]))
+}
+
+fn wide_byte(x: u8) -> u64 {
+    x as u64
+}
+
+// With one byte of each cell, of a text that has `width` bytes for each.
+pub(crate) fn with_text(sum: u64, text: &[u8], width: u64, turn: u64) -> u64
+    requires { ⌜ (0 < width) × (width < 1000) ⌝ }
+{
+    let mut with_all = sum;
+    let mut k = (turn % width) as usize;
+    while k < text.len() {
+        with_all = with(with_all, wide_byte(text[k]));
+        k += width as usize;
+    }
+    with_all
 }

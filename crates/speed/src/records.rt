@@ -1,13 +1,13 @@
-// The records that are written and read.
+// The records that are written and read, and the bytes of a page.
 ghost use Prim.Native.Nat.{_+_, _≤_};
-use crate::checksum::with;
 use crate::rivers::RIVERS;
+use page::Page;
 use record::Record;
 use river::River;
 
 pub(crate) const BYTES: usize = River::CELLS_MOST * Record::CELL_BYTES;
 
-const CELL_BYTES: u64 = Record::CELL_BYTES as u64;
+pub(crate) const PAGE_BYTES: usize = River::CELLS_MOST * Page::ROW_BYTES;
 
 pub(crate) const ALL_BYTES: usize = RIVERS * BYTES;
 
@@ -33,19 +33,4 @@ pub(crate) fn records_of(rivers: [River; RIVERS]) -> [u8; ALL_BYTES] {
         r += 1;
     }
     texts
-}
-
-fn wide(x: u8) -> u64 {
-    x as u64
-}
-
-// The checksum with one byte of each cell.
-pub(crate) fn with_text(sum: u64, text: &[u8; BYTES], turn: u64) -> u64 {
-    let mut with_all = sum;
-    let mut k = (turn % CELL_BYTES) as usize;
-    while k < BYTES {
-        with_all = with(with_all, wide(text[k]));
-        k += Record::CELL_BYTES;
-    }
-    with_all
 }

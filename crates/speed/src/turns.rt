@@ -6,13 +6,16 @@ use crate::checksum::with;
 use crate::checksum::with_amounts;
 use crate::checksum::with_carry;
 use crate::checksum::with_signed;
+use crate::checksum::with_text;
 use crate::frames::READINGS;
 use crate::frames::frame_of;
 use crate::frames::with_frame;
 use crate::records::BYTES;
-use crate::records::with_text;
+use crate::records::PAGE_BYTES;
 use crate::rivers::load_of;
 use crate::sets::conditions_of;
+use page::Page;
+use record::Record;
 use river::River;
 use stoichiometry::Set;
 
@@ -74,8 +77,14 @@ pub(crate) fn write_turn(
 ) -> u64 {
     let number = record::write_record(river, output, work);
     let with_number = with(sum, number as u64);
-    let with_output = with_text(with_number, output, turn);
-    with_text(with_output, work, turn)
+    let with_output = with_text(with_number, output, Record::CELL_BYTES as u64, turn);
+    with_text(with_output, work, Record::CELL_BYTES as u64, turn)
+}
+
+pub(crate) fn page_turn(river: River, output: &mut [u8; PAGE_BYTES], sum: u64, turn: u64) -> u64 {
+    let number = page::write_page(river, output);
+    let with_number = with(sum, number as u64);
+    with_text(with_number, output, Page::ROW_BYTES as u64, turn)
 }
 
 pub(crate) fn read_turn(text: &[u8], sum: u64, turn: u64) -> u64 {

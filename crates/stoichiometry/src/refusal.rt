@@ -33,3 +33,6 @@ pub const SPACE: u32 = 10;
 
 // The text is not exactly a record.
 pub const TEXT: u32 = 11;
+
+// The output is too short for the page.
+pub const PAGE: u32 = 12;

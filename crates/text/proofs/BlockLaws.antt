@@ -1,10 +1,11 @@
 -- Laws of `blocks`: length, equal blocks, two runs in one, rows of blocks as one run; for blocks of one width, of the
--- parts of a run; and a part by its bytes. No assumptions.
+-- parts of a run and of a loop that writes them; and a part by its bytes. No assumptions.
 use Prim.Native.Nat.{ℕ, zero, suc, _+_, _*_, _/_, _%_, _≤_, _<_}
 use mathlib.Core.List.{List, _++_, append-assoc, append-nil}
 use mathlib.Core.Logic.{⊎-elim}
 use mathlib.Core.Path.{_≡_, refl, sym, ap, ap₂, _∙_}
 use native.Mathlib.Nat.{suc-mul, zero-mul, add-suc, add-zero, mul-le-mul-right, eq-or-lt-of-le, le-of-suc-le-suc}
+use native.Mathlib.Numerals.{add-one}
 use native.Mathlib.Omega.{arith}
 use lib.Arith.{digits-div, digits-mod}
 use lib.ListN.{length, take, drop, getD, length-append, length-take, length-drop}
@@ -12,6 +13,8 @@ use lib.Seq.{drop-at, take-add, take-all, take-append-le, drop-append-le, getD-t
 use Rattle.numeric.specs.Table.{tab}
 use Rattle.numeric.proofs.TableLaws.{tab-of-list, tab-eq}
 use Rattle.text.specs.Blocks.{blocks, part}
+use Rattle.text.specs.Writes.{put}
+use Rattle.text.proofs.WriteLaws.{put-all, grow}
 
 pub blocks-length : (w m : ℕ) (f : ℕ → List ℕ) → ((i : ℕ) → length (f i) ≡ w) → length (blocks m f) ≡ m * w
 unfolding blocks
@@ -68,3 +71,17 @@ unfolding blocks
 blocks-parts w f t zero h = rw zero-mul
 blocks-parts w f t (suc m) h =
     rw (suc-mul, take-add) (ap₂ _++_ (blocks-parts w f t m (λ i l. h i (omega arith))) (h m (omega arith)))
+
+-- Blocks of one width written: one more behind the first k, and all over a text of their length.
+module _ (w : ℕ) (f : ℕ → List ℕ) (each : (i : ℕ) → length (f i) ≡ w) (l₀ l : List ℕ) where
+  pub blocks-turn : (l₁ : List ℕ) (at m k : ℕ) → m ≡ at + k * w → at + k * w + w ≤ length l₀
+      → l ≡ put l₀ at (blocks k f)
+      → l₁ ≡ put l m (f k)
+      → l₁ ≡ put l₀ at (blocks (k + 1) f)
+  unfolding blocks
+  blocks-turn l₁ at m k em h e e₁ =
+      rw (add-one k) (e₁ ∙ grow l₀ l at (k * w) m (blocks k f) (f k) (blocks-length w k f each) em (omega arith) e)
+
+  pub blocks-written : (k n : ℕ) → k ≡ n → length l₀ ≡ n * w → l ≡ put l₀ 0 (blocks k f) → l ≡ blocks n f
+  blocks-written k n e long written =
+      rw e at written ∙ put-all l₀ (blocks n f) (blocks-length w n f each ∙ sym long)

@@ -46,6 +46,12 @@ unfolding nextMark
 next-mark-digit zero mark h = absurd (h refl)
 next-mark-digit (suc r) mark h = refl
 
+-- Blanks stand before blanks.
+pub next-mark-blank : (r : ℕ) → nextMark r 32 ≡ 32
+unfolding nextMark
+next-mark-blank zero = refl
+next-mark-blank (suc r) = refl
+
 -- A store in the last column that is still to be written.
 before : (l : List ℕ) (at b : ℕ) (xs : List ℕ) (k : ℕ) → length xs ≡ k → at + k < length l
     → put (set l (at + k) b) at xs ≡ put l at (xs ++ (b ∷ []))

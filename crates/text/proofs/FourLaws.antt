@@ -19,7 +19,7 @@ low-bits : (q r : ℕ) → q < 10 → (q + r * 64) % 16 ≡ q
 low-bits q r small = omega arith
 
 -- The tens of two pairs, h and l: the mask keeps four bits of each, and drops the part of a whole that l leaves.
-both-tens : (h l : ℕ) → h < 100 → l < 100 → bitAnd ((h + l * 65536) * 103 / 1024) 983055 ≡ h / 10 + l / 10 * 65536
+pub both-tens : (h l : ℕ) → h < 100 → l < 100 → bitAnd ((h + l * 65536) * 103 / 1024) 983055 ≡ h / 10 + l / 10 * 65536
 both-tens h l hs ls =
     let high = l / 10 in
     let low = h / 10 + l * 103 % 1024 * 64 in

@@ -1,18 +1,18 @@
--- Laws of `put`: writes one behind the other are one write, stores are a write, a write over a write. Then of
--- `putWithin` and `copied`. Sequences of writes go by `grow` and `store`. No assumptions.
-use Prim.Native.Nat.{ℕ, _+_, _≤_, _<_}
+-- Laws of `put`: writes one behind the other are one write, stores are a write, a write over a write, over all of a text
+-- and over a part of one. Then of `putWithin` and `copied`. Sequences of writes go by `grow` and `store`. No assumptions.
+use Prim.Native.Nat.{ℕ, _+_, _-_, _≤_, _<_}
 use mathlib.Core.Bool.{false, _&&_}
-use mathlib.Core.List.{List, [], _∷_, _++_, append-assoc}
+use mathlib.Core.List.{List, [], _∷_, _++_, append-assoc, append-nil}
 use mathlib.Core.Path.{_≡_, refl, sym, ap, _∙_}
-use native.Mathlib.Nat.{add-zero, add-assoc}
+use native.Mathlib.Nat.{zero-add, add-zero, add-assoc}
 use native.Mathlib.Numerals.{add-one}
 use native.Mathlib.Omega.{arith}
 use borrow.Author.Tests.{le-leb, lt-leb}
 use lib.Dec.{leb}
 use lib.ListN.{length, take, drop, set, getD, length-append, length-take, length-drop, take-append-drop}
 use lib.ListN.{List·getD-append}
-use lib.Seq.{sets, sets-eq, take-add, take-at, take-suc, drop-at, drop-drop, drop-append-add, length-take-le}
-use lib.Seq.{getD-append-add}
+use lib.Seq.{sets, sets-eq, take-add, take-at, take-suc, drop-at, drop-drop, drop-length, drop-append-add}
+use lib.Seq.{length-take-le, getD-append-add}
 use Rattle.text.specs.Writes.{put, putWithin, copied}
 
 pub put-none : (l : List ℕ) (at : ℕ) → put l at [] ≡ l
@@ -31,6 +31,19 @@ put-at l at xs j h k =
     ap (λ (n : ℕ). getD (put l at xs) (n + j) 0) (sym (length-take-le at l (omega arith)))
     ∙ getD-append-add (take at l) (xs ++ drop (at + length xs) l) j 0
     ∙ List·getD-append xs (drop (at + length xs) l) 0 j k
+
+-- A write over all of a text.
+pub put-all : (l xs : List ℕ) → length xs ≡ length l → put l 0 xs ≡ xs
+unfolding put
+put-all l xs e = rw (zero-add (length xs), e, drop-length l) (append-nil xs)
+
+-- A part of a text in whose place stands another text of its length.
+pub part-written : (l mid xs : List ℕ) (at w : ℕ) → length xs ≡ w → mid ≡ xs
+    → take at l ++ (mid ++ drop (at + w - at) (drop at l)) ≡ put l at xs
+unfolding put
+part-written l mid xs at w long e =
+    let count : at + w - at ≡ w = omega arith in
+    rw (e, count, drop-drop w at l, long) refl
 
 -- A write behind the text a.
 behind : (a b xs : List ℕ) (k : ℕ) → length a ≡ k → put (a ++ b) k xs ≡ a ++ (xs ++ drop (length xs) b)

@@ -8,7 +8,7 @@ use std::time::{Duration, Instant};
 
 /// The letter of each kind of call, and its name. The first makes no call: what
 /// its turns cost is taken off the others.
-const KINDS: [(char, &str); 9] = [
+const KINDS: [(char, &str); 10] = [
     ('n', "no call"),
     ('s', "step"),
     ('f', "flow"),
@@ -18,6 +18,7 @@ const KINDS: [(char, &str); 9] = [
     ('w', "record write"),
     ('R', "record read"),
     ('p', "frame"),
+    ('b', "page write"),
 ];
 /// Runs of each program for each kind, in turn. The best counts, since everything
 /// else that the machine does can only slow a run down; many short runs find a

@@ -7,6 +7,7 @@
 //! river in place, so each is made on a copy: in both programs the river that a
 //! call is made on is still there after it.
 
+use reference::page::{self, ROW_BYTES};
 use reference::record::{self, CELL_BYTES};
 use reference::river::{CARRIES, CELLS};
 use reference::rows::rows;
@@ -19,6 +20,8 @@ use std::io::Read;
 const PREPARED: usize = 8;
 /// Bytes of a record of eight cells.
 const BYTES: usize = CELLS * CELL_BYTES;
+/// Bytes of a bank page of eight cells.
+const PAGE_BYTES: usize = CELLS * ROW_BYTES;
 /// No more calls than this are made: from there on a digit changes nothing.
 const MOST: u64 = 1_000_000_000;
 
@@ -51,6 +54,7 @@ fn checksum(kind: u8, calls: u64) -> u64 {
         b'w' => writes(calls),
         b'R' => reads(calls),
         b'p' => frames(calls),
+        b'b' => pages(calls),
         b'n' => turns(calls),
         _ => 0,
     }
@@ -108,6 +112,12 @@ fn reads(calls: u64) -> u64 {
 fn frames(calls: u64) -> u64 {
     let readings = readings();
     (0..calls).fold(0, |sum, turn| frame_turn(&readings, sum, turn))
+}
+
+fn pages(calls: u64) -> u64 {
+    let rivers = rivers();
+    let mut output = [0; PAGE_BYTES];
+    (0..calls).fold(0, |sum, turn| page_turn(&rivers[in_turn(turn)], &mut output, sum, turn))
 }
 
 // One turn of each kind: one call, and the checksum with its answer. Each call stands
@@ -188,6 +198,11 @@ fn frame_turn(readings: &[f32; 16], sum: u64, turn: u64) -> u64 {
     with_frame(with(sum, number.into()), &amounts)
 }
 
+fn page_turn(river: &River, output: &mut [u8; PAGE_BYTES], sum: u64, turn: u64) -> u64 {
+    let number = page::write(black_box(river), output);
+    with_page(with(sum, number.into()), black_box(output), turn)
+}
+
 /// The place of what a turn takes.
 fn in_turn(turn: u64) -> usize {
     (turn % PREPARED as u64) as usize
@@ -215,6 +230,12 @@ fn with_river(sum: u64, river: &River, turn: u64) -> u64 {
 fn with_text(sum: u64, text: &[u8; BYTES], turn: u64) -> u64 {
     let first = (turn % CELL_BYTES as u64) as usize;
     text[first..].iter().step_by(CELL_BYTES).fold(sum, |sum, &byte| with(sum, byte.into()))
+}
+
+/// With one byte of each row.
+fn with_page(sum: u64, page: &[u8; PAGE_BYTES], turn: u64) -> u64 {
+    let first = (turn % ROW_BYTES as u64) as usize;
+    page[first..].iter().step_by(ROW_BYTES).fold(sum, |sum, &byte| with(sum, byte.into()))
 }
 
 /// With every amount of a frame.
@@ -297,5 +318,10 @@ mod tests {
                 }
             }
         }
+    }
+
+    #[test]
+    fn every_river_has_a_page() {
+        assert!(rivers().iter().all(|river| page::write(river, &mut [0; PAGE_BYTES]) == 0));
     }
 }

@@ -8,6 +8,7 @@ use super::{KINDS, NUMBERS};
 use crate::extents::Conditions;
 use crate::frame::{Frame, Oxygen};
 use crate::lists::Random;
+use crate::page;
 use crate::record::{self, CELL_BYTES};
 use crate::refusal;
 use crate::river::{totals, River, BATCH, CELLS};
@@ -286,6 +287,12 @@ impl Scene {
         let lines = record::lines(&text, cell);
         let digest = Digest::new().with(lines.len() as i64).with_all(lines);
         self.answered('I', &[cell.into()], number, digest, None)
+    }
+
+    pub fn page(&mut self, output: usize) -> u32 {
+        let mut out = vec![35; output];
+        let number = page::write(&self.given.river, &mut out);
+        self.answered('B', &[output as i64], number, Digest::new().with_all(&out), None)
     }
 }
 

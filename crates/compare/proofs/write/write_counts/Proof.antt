@@ -5,10 +5,10 @@ use Rattle.compare.proofs.write.write_counts.Statement.{statement}
 use Rattle.compare.proofs.write.write_counts.Tie as tie
 
 abbrev Inv-loop : tie.InvT-loop
-Inv-loop tally kind calls₀ number₀ calls number = number ≤ 12
+Inv-loop tally kind calls₀ number₀ calls number = number ≤ 13
 
 abbrev μ-loop : tie.MeasureT-loop
-μ-loop tally kind calls₀ number₀ calls number = 12 - number
+μ-loop tally kind calls₀ number₀ calls number = 13 - number
 
 loop-holds : tie.Need-loop-holds Inv-loop μ-loop
 loop-holds c = search needs

@@ -5,10 +5,10 @@ use Rattle.compare.proofs.write.write_head.Statement.{statement}
 use Rattle.compare.proofs.write.write_head.Tie as tie
 
 abbrev Inv-loop : tie.InvT-loop
-Inv-loop number₀ t3 number = number ≤ 12
+Inv-loop number₀ t3 number = number ≤ 13
 
 abbrev μ-loop : tie.MeasureT-loop
-μ-loop number₀ t3 number = 12 - number
+μ-loop number₀ t3 number = 13 - number
 
 slice-aggregate-write-all : tie.Need-slice-aggregate-write-all Inv-loop μ-loop
 slice-aggregate-write-all c = search needs

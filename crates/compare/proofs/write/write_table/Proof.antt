@@ -5,10 +5,10 @@ use Rattle.compare.proofs.write.write_table.Statement.{statement}
 use Rattle.compare.proofs.write.write_table.Tie as tie
 
 abbrev Inv-loop : tie.InvT-loop
-Inv-loop tally calls₀ equal₀ kind₀ calls equal kind = kind ≤ 14
+Inv-loop tally calls₀ equal₀ kind₀ calls equal kind = kind ≤ 15
 
 abbrev μ-loop : tie.MeasureT-loop
-μ-loop tally calls₀ equal₀ kind₀ calls equal kind = 14 - kind
+μ-loop tally calls₀ equal₀ kind₀ calls equal kind = 15 - kind
 
 write-head-requires : tie.Need-write-head-requires Inv-loop μ-loop
 write-head-requires c κs = search needs

@@ -12,7 +12,7 @@ use Rattle.text.proofs.DecimalLaws.{plain-length}
 use Rattle.text.proofs.WriteLaws.{put-none, put-within}
 use Rattle.record.specs.Inner.Stages.{lineLabels}
 use Rattle.record.specs.Lines.{lines}
-use Rattle.record.proofs.Written.{blocks-turn, blocks-written}
+use Rattle.text.proofs.BlockLaws.{blocks-turn, blocks-written}
 use Rattle.record.proofs.writing.line_labels.Statement.{statement}
 use Rattle.record.proofs.writing.line_labels.Tie as tie
 

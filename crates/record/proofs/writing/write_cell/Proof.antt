@@ -11,7 +11,7 @@ use Rattle.text.proofs.WriteLaws.{put-none, put-length}
 use Rattle.numeric.proofs.Machine.{kept-is}
 use Rattle.record.specs.Lines.{line, cellText, valueOf, lines, lineBytes, cellBytes}
 use Rattle.record.proofs.LineLaws.{line-length, cell-length}
-use Rattle.record.proofs.Written.{blocks-turn}
+use Rattle.text.proofs.BlockLaws.{blocks-turn}
 use Rattle.record.proofs.writing.write_cell.Statement.{statement}
 use Rattle.record.proofs.writing.write_cell.Tie as tie
 

@@ -8,7 +8,7 @@ use Rattle.text.proofs.WriteLaws.{put-none, put-length}
 use Rattle.record.specs.Lines.{recordText, valueOf, lines, cellBytes}
 use Rattle.record.specs.Inner.Stages.{cellsPut}
 use Rattle.record.proofs.LineLaws.{cell-length, record-length}
-use Rattle.record.proofs.Written.{blocks-turn}
+use Rattle.text.proofs.BlockLaws.{blocks-turn}
 use Rattle.record.proofs.writing.write_cells.Statement.{statement}
 use Rattle.record.proofs.writing.write_cells.Tie as tie
 

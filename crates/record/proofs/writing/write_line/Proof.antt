@@ -8,7 +8,8 @@ use mir.Facts.{toZ-ofZ}
 use Rattle.text.specs.Decimals.{decimal}
 use Rattle.text.specs.Writes.{putWithin}
 use Rattle.record.proofs.LineLaws.{line-length}
-use Rattle.record.proofs.Written.{line-written, part-written}
+use Rattle.text.proofs.WriteLaws.{part-written}
+use Rattle.record.proofs.Written.{line-written}
 use borrow.Author.Needs.{needs}
 use Rattle.record.proofs.writing.write_line.Statement.{statement}
 use Rattle.record.proofs.writing.write_line.Tie as tie

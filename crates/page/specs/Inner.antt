@@ -1,0 +1,2 @@
+-- Inner definitions, which inner functions and laws share. No contract of a public call cites one.
+pub mod Stages
