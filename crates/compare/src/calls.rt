@@ -9,7 +9,7 @@ use river::{Changed, River};
 use totals::Totals;
 
 // What a call answered. A call that answers no river hands on the one it got.
-#[derive(Drop)]
+#[derive(Clone, Copy)]
 pub(crate) struct Answer {
     pub number: u32,
     pub digest: u64,

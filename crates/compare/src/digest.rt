@@ -8,7 +8,7 @@ const P: u64 = 2147483647;
 pub(crate) const START: u64 = 1;
 
 // The number of an answer, and the digest of all that it holds besides.
-#[derive(Drop)]
+#[derive(Clone, Copy)]
 pub(crate) struct Told {
     pub number: u32,
     pub digest: u64,

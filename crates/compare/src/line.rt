@@ -4,7 +4,7 @@
 const ROOM: usize = 96;
 
 // A line as far as it is read. Numbers are kept without their signs; at most one number of a line has a minus.
-#[derive(Drop)]
+#[derive(Clone, Copy)]
 pub(crate) struct Line {
     pub letter: u8,
     pub count: usize,

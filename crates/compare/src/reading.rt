@@ -7,7 +7,7 @@ use libc::STDIN_FILENO;
 const BLOCKS: u32 = 1000;
 
 // The scene after the lines so far, and the line that is not at its end. A last line with no line feed makes no call.
-#[derive(Drop)]
+#[derive(Clone, Copy)]
 pub(crate) struct Read {
     pub scene: Scene,
     pub line: Line,

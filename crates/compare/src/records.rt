@@ -9,7 +9,7 @@ use river::{Changed, River};
 // Room for more than a text of nine cells.
 pub(crate) const ROOM: usize = 8600;
 
-#[derive(Drop)]
+#[derive(Clone, Copy)]
 pub(crate) struct Text {
     bytes: [u8; ROOM],
     length: usize,

@@ -9,7 +9,7 @@ use river::{AMOUNTS, CARRIES, River};
 
 // What the next call gets: a set, a river and whether it was changed for this call alone, a text and whether it was
 // made, which is done when it is first asked for.
-#[derive(Drop)]
+#[derive(Clone, Copy)]
 pub(crate) struct Given {
     figures: Figures,
     river: River,
@@ -18,7 +18,7 @@ pub(crate) struct Given {
     made: bool,
 }
 
-#[derive(Drop)]
+#[derive(Clone, Copy)]
 pub(crate) struct Scene {
     figures: Figures,
     river: River,

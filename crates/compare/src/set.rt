@@ -9,7 +9,7 @@ use stoichiometry::{
 
 const FIGURES: usize = 83;
 
-#[derive(Drop)]
+#[derive(Clone, Copy)]
 pub(crate) struct Figures {
     list: [u32; FIGURES],
 }

@@ -7,14 +7,14 @@ pub(crate) const NUMBERS: usize = 13;
 const COUNTS: usize = KINDS * NUMBERS;
 
 // A call by its number and its digest, expected or got.
-#[derive(Drop)]
+#[derive(Clone, Copy)]
 pub(crate) struct Pair {
     pub number: u64,
     pub digest: u64,
 }
 
 // Where an answer first differed; line 0 where none did.
-#[derive(Drop)]
+#[derive(Clone, Copy)]
 pub(crate) struct Difference {
     pub line: u64,
     pub letter: u8,
@@ -23,7 +23,7 @@ pub(crate) struct Difference {
 }
 
 // Calls by kind and expected number, kind k with number n at k * NUMBERS + n; equal answers by kind; lines so far.
-#[derive(Drop)]
+#[derive(Clone, Copy)]
 pub(crate) struct Tally {
     pub counts: [u64; COUNTS],
     pub equal: [u64; KINDS],

@@ -7,7 +7,7 @@ use numeric::{both, in_range};
 use stoichiometry::Seconds;
 
 // Temperature factors, millionths: of XH, XN1, XN2, XALG and hydrolysis.
-#[derive(Drop)]
+#[derive(Clone, Copy)]
 pub struct Temperatures {
     pub xh: u32,
     pub xn1: u32,
@@ -21,7 +21,7 @@ impl Temperatures {
 }
 
 // What a step is given besides the set and the river: seconds, light in millionths, temperature factors.
-#[derive(Drop)]
+#[derive(Clone, Copy)]
 pub struct Conditions {
     pub seconds: u32,
     pub light: u32,

@@ -24,7 +24,7 @@ kept z = to_z w64 (of_z w64 z)
 
 -- A number that fits is kept: `mag z < 2 ^ 63` is what a read or a call gives of its value (`.given`, `.ok`).
 pub kept_is : (z : ℤ) → mag z < 2 ^ 63 → kept z ≡ z
-kept_is z h = to_z-of_z (sfits_of h)
+kept_is z h = to_z-of_z {w = w64} (sfits_of h)
 
 -- A call's result of which its contract says what it is.
 pub result_is : {x : ℤ} (y : ℤ) → x ≡ y → mag x < 2 ^ 63 → kept x ≡ y

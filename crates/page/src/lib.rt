@@ -9,7 +9,7 @@ use stoichiometry::refusal;
 mod writing;
 
 // The text of a river for its crew. It has no value of its own: `write_page` writes it into lent bytes.
-#[derive(Drop)]
+#[derive(Clone, Copy)]
 pub struct Page;
 
 impl Page {

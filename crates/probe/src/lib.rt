@@ -9,7 +9,7 @@ mod frames;
 mod readings;
 
 // The oxygen reading: a mass, g/m³; a percentage of saturation; or missing.
-#[derive(Drop)]
+#[derive(Clone, Copy)]
 pub enum Oxygen {
     Mass(f32),
     Percent(f32),
@@ -17,7 +17,7 @@ pub enum Oxygen {
 }
 
 // What the probe read: NH4-N, NO2-N, NO3-N and PO4-P, g/m³, and oxygen.
-#[derive(Drop)]
+#[derive(Clone, Copy)]
 pub struct Frame {
     pub ammonium: f32,
     pub nitrite: f32,
@@ -32,14 +32,14 @@ impl Frame {
 }
 
 // The amount of O2, grains, or the mark of a missing reading.
-#[derive(Drop)]
+#[derive(Clone, Copy)]
 pub enum OxygenAmount {
     Grains(i64),
     Missing,
 }
 
 // What a frame becomes: a number, 0 for none, and the amounts of NH4, NO2, NO3, HPO4 and O2, grains.
-#[derive(Drop)]
+#[derive(Clone, Copy)]
 pub struct Amounts {
     pub number: u32,
     pub ammonium: i64,

@@ -10,7 +10,7 @@ use text::copy_bytes;
 mod writing;
 
 // The text of a river. It has no value of its own: calls write it into lent bytes and read it from them.
-#[derive(Drop)]
+#[derive(Clone, Copy)]
 pub struct Record;
 
 impl Record {

@@ -19,7 +19,7 @@ pub const CARRIES: usize = River::CELLS_MOST * PROCESSES;
 
 // A train of cells. Amount s of cell c, both counted from 0, stands at c * SUBSTANCES + s: organics in µg, the others
 // in grains, per cubic metre. Carry p of cell c stands at c * PROCESSES + p: millionths of a batch.
-#[derive(Drop)]
+#[derive(Clone, Copy)]
 pub struct River {
     pub cells: u32,
     pub amounts: [i64; AMOUNTS],
@@ -72,14 +72,14 @@ fn zero_river(n: u32) -> River
 
 // The river of a call's answer, or the number of its refusal and the river handed in; where none was handed in, by
 // `River::fresh` and the reading of a record, a river of no cells.
-#[derive(Drop)]
+#[derive(Clone, Copy)]
 pub struct Changed {
     pub number: u32,
     pub river: River,
 }
 
 // The letter of one cell, a byte of ASCII; on refusal the number and 0.
-#[derive(Drop)]
+#[derive(Clone, Copy)]
 pub struct Letter {
     pub number: u32,
     pub letter: u8,

@@ -8,7 +8,7 @@ use stoichiometry::{Acceptor, Fractions, Further, Nitrogen};
 
 // What a row does besides its closure: nitrogen as nitrate, as nitrite (0 or 1); NH4 oxidised to NO2, NO2 to NO3 (m is
 // 22,320 times that); HPO4 adsorbed, grains; the acceptor: NO3 to NO2, NO2 to N2, NO3 to N2 (0 or 1).
-#[derive(Drop)]
+#[derive(Clone, Copy)]
 pub(crate) struct Kind {
     pub nitrate: i64,
     pub nitrite: i64,
@@ -21,17 +21,17 @@ pub(crate) struct Kind {
 }
 
 // Parts of a `Kind`, in its order: the nitrogen's form, what is turned over besides, the acceptor.
-#[derive(Drop)]
+#[derive(Clone, Copy)]
 pub(crate) struct Form(pub i64, pub i64);
 
-#[derive(Drop)]
+#[derive(Clone, Copy)]
 pub(crate) struct Turned(pub i64, pub i64, pub i64);
 
-#[derive(Drop)]
+#[derive(Clone, Copy)]
 pub(crate) struct Reduced(pub i64, pub i64, pub i64);
 
 // The changes of the substances that are no organics, grains, and E.
-#[derive(Drop)]
+#[derive(Clone, Copy)]
 pub(crate) struct Others {
     pub nh4: i64,
     pub no2: i64,

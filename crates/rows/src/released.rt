@@ -6,7 +6,7 @@ ghost use Rattle.rows.specs.Inner.Code.{Thousandths, InReleased, released_part, 
 use stoichiometry::Fractions;
 
 // Elements that a row's organic changes release, thousandth-µg.
-#[derive(Drop)]
+#[derive(Clone, Copy)]
 pub(crate) struct Released {
     pub c: i64,
     pub h: i64,

@@ -1,7 +1,7 @@
 // What standard input asks for.
 
 // A kind by its letter, and how many calls.
-#[derive(Drop)]
+#[derive(Clone, Copy)]
 pub(crate) struct Order {
     pub kind: u8,
     pub calls: u64,

@@ -44,7 +44,7 @@ place_lt s = (order_at (λ x. pos 0) s).0
 -- A test that every organic of the list passes.
 pub each-organic : (p : Organic → Bool) → all_of p organics ≡ true → (x : Organic) → p x ≡ true
 each-organic p e x =
-    elim x [
+    elim x as (λ y. p y ≡ true) [
       | ss ↦ at 0 tt
       | si ↦ at 1 tt
       | xh ↦ at 2 tt

@@ -2,7 +2,7 @@
 // saturation of O2. Neither has a value of its own: calls take them as plain numbers.
 
 // Seconds, from 1 on.
-#[derive(Drop)]
+#[derive(Clone, Copy)]
 pub struct Seconds;
 
 impl Seconds {
@@ -14,7 +14,7 @@ impl Seconds {
 }
 
 // The level of O2 that is in balance with the air, µg.
-#[derive(Drop)]
+#[derive(Clone, Copy)]
 pub struct Saturation;
 
 impl Saturation {

@@ -6,7 +6,7 @@ use numeric::magnitude;
 use stoichiometry::{ENTRIES, PROCESSES, SUBSTANCES};
 
 // A printed figure: its digits as one number, and 10 to the number of its decimals. A blank has the digits 0.
-#[derive(Drop)]
+#[derive(Clone, Copy)]
 pub(crate) struct Figure {
     pub negative: bool,
     pub digits: u64,

@@ -12,7 +12,7 @@ fn counted(n: usize, holds: bool) -> usize {
 }
 
 // How many printed figures there are and agree, how many blanks there are and stand for 0.
-#[derive(Drop)]
+#[derive(Clone, Copy)]
 struct Tally {
     figures: usize,
     agreeing: usize,
@@ -77,7 +77,7 @@ fn appended(n: u64, digit: u8) -> u64 {
 }
 
 // A cell as far as it is read.
-#[derive(Drop)]
+#[derive(Clone, Copy)]
 struct Cell {
     begun: bool,
     decimals: bool,
@@ -119,7 +119,7 @@ impl Cell {
 
 // How far the text is read: the line's process from 1 on, 0 where the line begins with no number, as the heading does;
 // the column of the next cell, 0 for the process and from 1 on the substances; the counts of the line and of all lines.
-#[derive(Drop)]
+#[derive(Clone, Copy)]
 struct Reading {
     process: usize,
     column: usize,

@@ -7,7 +7,7 @@ use crate::reading::{blanks, decimal_after};
 mod reading;
 
 // What was read: whether it was a decimal, and its value, 0 where it was none.
-#[derive(Drop)]
+#[derive(Clone, Copy)]
 pub struct Decimal {
     pub ok: bool,
     pub value: i64,

@@ -11,7 +11,7 @@ use stoichiometry::{SUBSTANCES, Set, refusal};
 mod cell_totals;
 
 // The six totals of one cell, grains; on refusal the number and zeros.
-#[derive(Drop)]
+#[derive(Clone, Copy)]
 pub struct Totals {
     pub number: u32,
     pub carbon: i64,

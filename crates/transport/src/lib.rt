@@ -16,7 +16,7 @@ mod flow;
 mod load;
 
 // The river after a flow, and what left each cell; on refusal the number, the river handed in, and zeros.
-#[derive(Drop)]
+#[derive(Clone, Copy)]
 pub struct Flowed {
     pub number: u32,
     pub river: River,
@@ -30,7 +30,7 @@ impl Flowed {
 
 // The river after air, and the signed amount of O2 it brought, grains; on refusal the number, the river handed in,
 // and 0.
-#[derive(Drop)]
+#[derive(Clone, Copy)]
 pub struct Aired {
     pub number: u32,
     pub river: River,

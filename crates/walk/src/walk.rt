@@ -11,7 +11,7 @@ use stoichiometry::{Set, refusal};
 use totals::{Totals, totals_of};
 use transport::{air_river, flow_river, load_river};
 
-#[derive(Drop)]
+#[derive(Clone, Copy)]
 pub(crate) struct Walk {
     set: Set,
     river: River,

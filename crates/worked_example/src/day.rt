@@ -73,7 +73,7 @@ fn grains(oxygen: OxygenAmount) -> i64 {
     }
 }
 
-#[derive(Drop)]
+#[derive(Clone, Copy)]
 pub(crate) struct Day {
     set: Set,
     river: River,

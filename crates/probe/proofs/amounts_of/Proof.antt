@@ -8,28 +8,28 @@ use borrow.Author.Rules.{rules}
 use Rattle.probe.proofs.amounts_of.Statement.{statement}
 use Rattle.probe.proofs.amounts_of.Tie as tie
 
-fits : (c : tie.Then2) → frame_fits c.before.before.before.args.frame ≡ true
-fits c = sym c.before.frame_fits.ensures ∙ c.if2.true
+fits : (c : tie.Then-frame_fits) → frame_fits c.before.before.before.args.frame ≡ true
+fits c = sym c.before.frame_fits.ensures ∙ c.if-frame_fits.true
 
-returns : tie.Need-returns
+returns : tie.Need-returns-then-saturation-gt-MOST
 returns c =
     let start = c.before.before in
-    c.refused.ensures ∙ sym (saturation_refused start.args.frame start.args.saturation (lt-ltb _ _ c.before.if1.true))
+    c.refused.ensures ∙ sym (saturation_refused start.args.frame start.args.saturation (lt-ltb _ _ c.before.if-saturation-gt-MOST.true))
 
-returns_2 : tie.Need-returns-2
+returns_2 : tie.Need-returns-then-frame_fits
 returns_2 c =
     let then = c.before in
     let left = then.before.before in
     let start = left.before in
-    c.amounts.ensures ∙ sym (frame-accepted start.args.frame start.args.saturation (le-ltb _ _ left.if1.false) (fits then))
+    c.amounts.ensures ∙ sym (frame-accepted start.args.frame start.args.saturation (le-ltb _ _ left.if-saturation-gt-MOST.false) (fits then))
 
-returns_3 : tie.Need-returns-3
+returns_3 : tie.Need-returns-else-frame_fits
 returns_3 c =
     let tested = c.before.before in
     let left = tested.before in
     let start = left.before in
-    let wrong = sym tested.frame_fits.ensures ∙ c.before.if2.false in
-    c.refused2.ensures ∙ sym (frame_refused start.args.frame start.args.saturation (le-ltb _ _ left.if1.false) wrong)
+    let wrong = sym tested.frame_fits.ensures ∙ c.before.if-frame_fits.false in
+    c.refused-else-frame_fits.ensures ∙ sym (frame_refused start.args.frame start.args.saturation (le-ltb _ _ left.if-saturation-gt-MOST.false) wrong)
 
 pub amounts_of_spec : {M : Type 1} → statement M
 amounts_of_spec =
@@ -38,7 +38,7 @@ amounts_of_spec =
     (λ c κs. search rules)
     returns
     (λ c κs. search rules)
-    (λ c κs. (fits c, c.before.before.if1.false))
+    (λ c κs. (fits c, c.before.before.if-saturation-gt-MOST.false))
     (λ c κs. search rules)
     returns_2
     returns_3)

@@ -6,11 +6,11 @@ use Rattle.river.proofs.Rivers.{amounts_beyond}
 use Rattle.river.proofs.amounts_fit.Statement.{statement}
 use Rattle.river.proofs.amounts_fit.Tie as tie
 
-returns_2 : tie.Need-returns-2
+returns_2 : tie.Need-returns-else-n-le-CELLS_MOST
 returns_2 c =
     let above = c.before in
     let args = above.before.args in
-    c.amounts-fit2.ensures ∙ sym (amounts_beyond args.cells args.amounts.now (omega (arith, above.if1.false)))
+    c.amounts_fit-else-n-le-CELLS_MOST.ensures ∙ sym (amounts_beyond args.cells args.amounts.now (omega (arith, above.if-n-le-CELLS_MOST.false)))
 
 pub amounts_fit_spec : {M : Type 1} → statement M
 amounts_fit_spec =

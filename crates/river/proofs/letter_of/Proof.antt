@@ -15,40 +15,40 @@ use Rattle.river.proofs.Rivers.{AmountKnown, wrong_tested, amount_known}
 use Rattle.river.proofs.letter_of.Statement.{statement}
 use Rattle.river.proofs.letter_of.Tie as tie
 
-abbrev begun : tie.After-river-fits → tie.Start
+abbrev begun : tie.After-river_fits → tie.Start
 begun c = c.before.before.before.before
 
-wrong : (c : tie.After-river-fits) → river_wrong (begun c).args.t1 ≡ not c.river_fits.result
+wrong : (c : tie.After-river_fits) → river_wrong (begun c).args.t1 ≡ not c.river_fits.result
 wrong c = wrong_tested (begun c).args.t1 _ c.river_fits.ensures
 
 -- Refused by 4.
-returns : tie.Need-returns
+returns : tie.Need-returns-then-not-river_fits
 unfolding letter_answer letter_number first_holding
-returns c = rw (wrong c.before ∙ c.if1.true)
+returns c = rw (wrong c.before ∙ c.if-not-river_fits.true)
 
 -- Past check 4.
-right : (c : tie.Else1) → river_wrong (begun c.before).args.t1 ≡ false
-right c = wrong c.before ∙ c.if1.false
+right : (c : tie.Else-not-river_fits) → river_wrong (begun c.before).args.t1 ≡ false
+right c = wrong c.before ∙ c.if-not-river_fits.false
 
 -- Past check 5 too.
-abbrev start : tie.Then2 → tie.Start
+abbrev start : tie.Then-in_range → tie.Start
 start c = begun c.before.before.before
 
-exists : (c : tie.Then2) → cell_exists (start c).args.t1 (start c).args.cell ≡ true
-exists c = sym c.before.in_range.ensures ∙ c.if2.true
+exists : (c : tie.Then-in_range) → cell_exists (start c).args.t1 (start c).args.cell ≡ true
+exists c = sym c.before.in_range.ensures ∙ c.if-in_range.true
 
 -- What is known of the cell's amount of a substance.
-known : (c : tie.Then2) (s : ℕ) → s < substances → AmountKnown (start c).args.t1 (start c).args.cell s
+known : (c : tie.Then-in_range) (s : ℕ) → s < substances → AmountKnown (start c).args.t1 (start c).args.cell s
 known c s h = amount_known (start c).args.t1 (right c.before.before) (start c).args.cell s (exists c) h
 
-at_cell : (c : tie.Then2) → (1 ≤ (start c).args.cell) × ((start c).args.cell - 1 < most_cells)
+at_cell : (c : tie.Then-in_range) → (1 ≤ (start c).args.cell) × ((start c).args.cell - 1 < most_cells)
 at_cell c = let k = known c 0 (lit< tt) in (k.first, k.below)
 
 -- O2 and NH4.
-oxygen : (c : tie.Then2) → AmountKnown (start c).args.t1 (start c).args.cell (place o2)
+oxygen : (c : tie.Then-in_range) → AmountKnown (start c).args.t1 (start c).args.cell (place o2)
 oxygen c = known c (place o2) (lit< tt)
 
-ammonium : (c : tie.Then2) → AmountKnown (start c).args.t1 (start c).args.cell (place nh4)
+ammonium : (c : tie.Then-in_range) → AmountKnown (start c).args.t1 (start c).args.cell (place nh4)
 ammonium c = known c (place nh4) (lit< tt)
 
 letter_requires : tie.Need-letter-requires
@@ -60,7 +60,7 @@ letter_requires c κs =
     )
 
 -- The letter.
-returns_2 : tie.Need-returns-2
+returns_2 : tie.Need-returns-then-in_range
 unfolding letter_answer letter_number letter_of first_holding
 returns_2 c =
     let passed = c.before.before.before in
@@ -73,9 +73,9 @@ returns_2 c =
     )
 
 -- Refused by 5.
-returns_3 : tie.Need-returns-3
+returns_3 : tie.Need-returns
 unfolding letter_answer letter_number first_holding
-returns_3 c = rw (right c.before.before, sym c.before.in_range.ensures ∙ c.if2.false)
+returns_3 c = rw (right c.before.before, sym c.before.in_range.ensures ∙ c.if-in_range.false)
 
 pub letter_of_spec : {M : Type 1} → statement M
 letter_of_spec =

@@ -11,41 +11,41 @@ use Rattle.text.proofs.WriteLaws.{put-none, copied-accepted, copied_refused, cop
 use Rattle.text.proofs.copy_bytes.Statement.{statement}
 use Rattle.text.proofs.copy_bytes.Tie as tie
 
-abbrev invariant-loop : tie.invariant-loop
+abbrev invariant-loop : tie.invariant-loop-i
 invariant-loop from count to₀ i₀ to i = (i ≤ count) × (to ≡ put to₀ 0 (take i from)) × (length to ≡ length to₀)
 
-abbrev decreases-loop : tie.decreases-loop
+abbrev decreases-loop : tie.decreases-loop-i
 decreases-loop from count to₀ i₀ to i = count - i
 
 -- `from` is shorter.
-returns : tie.Need-returns invariant-loop decreases-loop
-returns c = sym (copied_refused _ _ _ (rw (lt-leb _ _ c.if1.true) refl))
+returns : tie.Need-returns-then-from-count invariant-loop decreases-loop
+returns c = sym (copied_refused _ _ _ (rw (lt-leb _ _ c.if-from-count.true) refl))
 
 -- `to` is shorter.
-returns_2 : tie.Need-returns-2 invariant-loop decreases-loop
+returns_2 : tie.Need-returns-then-to-count invariant-loop decreases-loop
 returns_2 c =
     let args = c.before.before.args in
     let first = leb args.count (length args.from.now) in
     let short : length args.to.now < args.count = omega arith in
     sym (copied_refused _ _ _ (rw (lt-leb _ _ short) (and-false first)))
 
-loop_again : tie.Need-loop-preserved invariant-loop decreases-loop
+loop_again : tie.Need-loop-i-preserved invariant-loop decreases-loop
 loop_again c =
     let at_loop = c.before.before in
     let args = at_loop.before.before.before.args in
-    let now = at_loop.loop in (
+    let now = at_loop.loop-i in (
       omega arith,
       copied_turn args.from.now args.to.now now.to now.i (omega arith) (omega arith) now.invariant.1,
       simp length-set now.invariant.2,
     )
 
 -- All are copied.
-returns_3 : tie.Need-returns-3 invariant-loop decreases-loop
+returns_3 : tie.Need-returns invariant-loop decreases-loop
 returns_3 c =
     let at_loop = c.before in
     let args = at_loop.before.before.before.args in
-    let all : at_loop.loop.i ≡ args.count = omega arith in
-    rw all at at_loop.loop.invariant.1
+    let all : at_loop.loop-i.i ≡ args.count = omega arith in
+    rw all at at_loop.loop-i.invariant.1
     ∙ sym (copied-accepted args.from.now args.count args.to.now (omega arith) (omega arith))
 
 pub copy_bytes_spec : {M : Type 1} → statement M
@@ -59,5 +59,5 @@ copy_bytes_spec =
     (λ c. (omega arith, sym (put-none _ 0), refl))
     (λ c. omega arith) (λ c. omega arith) (λ c. omega arith) (λ c. omega arith)
     loop_again
-    (λ c. c.before.loop.invariant.2)
+    (λ c. c.before.loop-i.invariant.2)
     returns_3)

@@ -14,7 +14,7 @@ use Rattle.text.proofs.write_decimal.Statement.{statement}
 use Rattle.text.proofs.write_decimal.Tie as tie
 
 -- Written.
-returns_3 : tie.Need-returns-3
+returns_3 : tie.Need-returns-then-width-gt0
 unfolding decimal
 returns_3 c =
     let at_plain = c.before.before in
@@ -24,14 +24,14 @@ returns_3 c =
     let at_start = in_width.before.before.before.before in
     let args = at_start.args in
     let l = args.out.now in
-    at_plain.write-plain.ensures
+    at_plain.write_plain.ensures
     ∙ ap₂ (λ (m n : ℕ). put l args.at (plain args.width m n))
     at_mark.mark_of.ensures at_magnitude.magnitude.ensures
     ∙ ap (λ (z : ℤ). put l args.at (plain args.width (mark_of z) (nat_abs z))) (to_z-of_z at_start.ranges.value)
     ∙ sym (put_within_lem l args.at args.width _ (decimal-length args.width args.value) (omega arith))
 
 -- No columns.
-returns_4 : tie.Need-returns-4
+returns_4 : tie.Need-returns-else-width-gt0
 unfolding decimal
 returns_4 c =
     let args = c.before.before.before.before.args in

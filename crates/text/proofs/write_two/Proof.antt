@@ -9,12 +9,12 @@ use Rattle.text.proofs.DecimalLaws.{plain-length}
 use Rattle.text.proofs.write_two.Statement.{statement}
 use Rattle.text.proofs.write_two.Tie as tie
 
-returns_3 : tie.Need-returns-3
+returns_3 : tie.Need-returns
 unfolding columns plain
 returns_3 c =
     let args = c.before.before.before.before.args in
     let two = plain-length 2 32 args.n in
-    rw c.two_columns.ensures
+    rw c.two_columns-columns.ensures
     (two_stored args.out.now args.at _ _ (omega arith) ∙ sym (put_within_lem _ args.at 2 _ two (omega arith)))
 
 pub write_two_spec : {M : Type 1} → statement M

@@ -17,23 +17,23 @@ limits : (c : tie.Start)
     ≡ parse c.args.lowest c.args.highest c.args.columns.now
 limits c = rw (to_z-of_z c.ranges.lowest, to_z-of_z c.ranges.highest)
 
-decimal-after_requires : tie.Need-decimal-after-requires
+decimal-after_requires : tie.Need-decimal_after-requires
 decimal-after_requires c κs =
-    digits_from_minus _ _ c.before.before.before.blanks.ensures (omega arith) c.if2.true
+    digits_from_minus _ _ c.before.before.before.blanks-start.ensures (omega arith) c.if-columns-start-eq45.true
 
 -- After a minus.
-returns : tie.Need-returns
+returns : tie.Need-returns-then-columns-start-eq45
 returns c =
-    let found = c.before.before.before in c.decimal-after.ensures ∙ limits found.before.before.before
+    let found = c.before.before.before in c.decimal_after.ensures ∙ limits found.before.before.before
 
-decimal-after_requires_2 : tie.Need-decimal-after-requires-2
+decimal-after_requires_2 : tie.Need-decimal_after-requires-2
 decimal-after_requires_2 c κs =
-    digits_from_blanks _ _ c.before.blanks.ensures
-    (⊎_elim (λ w l. w.2.left) (λ w l. absurd (omega arith)) c.if1.branch)
+    digits_from_blanks _ _ c.before.blanks-start.ensures
+    (⊎_elim (λ w l. w.2.left) (λ w l. absurd (omega arith)) c.if-start-columns.branch)
 
 -- Without a minus.
-returns_2 : tie.Need-returns-2
-returns_2 c = c.decimal-after2.ensures ∙ limits c.before.before.before.before
+returns_2 : tie.Need-returns
+returns_2 c = c.decimal_after-2.ensures ∙ limits c.before.before.before.before
 
 pub read_decimal_spec : {M : Type 1} → statement M
 read_decimal_spec =

@@ -9,7 +9,7 @@ use Rattle.probe.proofs.frames.amounts.Tie as tie
 fitting : (c : tie.Start) → Fitting c.args.frame
 fitting c = frame_fits_lem c.args.frame c.requires.0
 
-oxygen_amount_requires : tie.Need-oxygen-amount-requires
+oxygen_amount_requires : tie.Need-oxygen_amount-requires
 oxygen_amount_requires c κs =
     let start = c.before.before.before.before in
     ((fitting start).oxygen, start.requires.1)
@@ -23,10 +23,10 @@ returns c =
     λ i. record {
       number = 0;
       ammonium = (kept_is ammonium.grains.result ammonium.grains.type-inv ∙ ammonium.grains.ensures) i;
-      nitrite = (kept_is nitrite.grains2.result nitrite.grains2.type-inv ∙ nitrite.grains2.ensures) i;
-      nitrate = (kept_is nitrate.grains3.result nitrate.grains3.type-inv ∙ nitrate.grains3.ensures) i;
-      phosphate = (kept_is phosphate.grains4.result phosphate.grains4.type-inv ∙ phosphate.grains4.ensures) i;
-      oxygen = c.oxygen-amount.ensures i;
+      nitrite = (kept_is nitrite.grains-2.result nitrite.grains-2.type-inv ∙ nitrite.grains-2.ensures) i;
+      nitrate = (kept_is nitrate.grains-3.result nitrate.grains-3.type-inv ∙ nitrate.grains-3.ensures) i;
+      phosphate = (kept_is phosphate.grains-4.result phosphate.grains-4.type-inv ∙ phosphate.grains-4.ensures) i;
+      oxygen = c.oxygen_amount.ensures i;
     }
 
 pub amounts_spec : {M : Type 1} → statement M

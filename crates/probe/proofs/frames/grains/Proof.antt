@@ -11,14 +11,14 @@ use borrow.Author.Rules.{rules}
 use Rattle.probe.proofs.frames.grains.Statement.{statement}
 use Rattle.probe.proofs.frames.grains.Tie as tie
 
-small : (c : tie.After-scaled-floor) → c.scaled-floor.result * c.before.args.weight ≤ 114278400000000000
+small : (c : tie.After-scaled_floor) → c.scaled_floor.result * c.before.args.weight ≤ 114278400000000000
 small c =
     let (reading, numerator, denominator) = c.before.requires.0 in
-    rw c.scaled-floor.ensures (grains_bound _ _ _ _ reading denominator numerator c.before.requires.1)
+    rw c.scaled_floor.ensures (grains_bound _ _ _ _ reading denominator numerator c.before.requires.1)
 
 returns : tie.Need-returns
 returns c =
-    to_z_pos w64 (omega (arith, small c)) ∙ ap (λ (n : ℕ). pos (n * c.before.args.weight)) c.scaled-floor.ensures
+    to_z_pos w64 (omega (arith, small c)) ∙ ap (λ (n : ℕ). pos (n * c.before.args.weight)) c.scaled_floor.ensures
 
 pub grains_spec : {M : Type 1} → statement M
 grains_spec =

@@ -5,11 +5,11 @@ use borrow.Author.Rules.{rules}
 use Rattle.probe.proofs.frames.oxygen_fits.Statement.{statement}
 use Rattle.probe.proofs.frames.oxygen_fits.Tie as tie
 
-returns : tie.Need-returns
-returns c = c.reading-fits.ensures ∙ sym (ap oxygen_fits c.before.before.oxygen.given.1)
+returns : tie.Need-returns-in-Mass
+returns c = c.reading_fits.ensures ∙ sym (ap oxygen_fits c.before.before.oxygen-1.given.1)
 
-returns_2 : tie.Need-returns-2
-returns_2 c = c.reading-fits2.ensures ∙ sym (ap oxygen_fits c.before.before.oxygen2.given.1)
+returns_2 : tie.Need-returns-in-Percent
+returns_2 c = c.reading_fits-in-Percent.ensures ∙ sym (ap oxygen_fits c.before.before.oxygen-in-Percent-1.given.1)
 
 pub oxygen_fits_spec : {M : Type 1} → statement M
 oxygen_fits_spec =

@@ -5,13 +5,13 @@ use Rattle.probe.proofs.ReadingLaws.{fits_from_zero, fits_below_zero}
 use Rattle.probe.proofs.readings.reading_fits.Statement.{statement}
 use Rattle.probe.proofs.readings.reading_fits.Tie as tie
 
-returns : tie.Need-returns
+returns : tie.Need-returns-then-x
 unfolding of_bits
-returns c = fits_from_zero c.before.args.x c.if1.true
+returns c = fits_from_zero c.before.args.x c.if-x.true
 
-returns_2 : tie.Need-returns-2
+returns_2 : tie.Need-returns-else-x
 unfolding of_bits
-returns_2 c = fits_below_zero c.before.args.x c.if1.false
+returns_2 c = fits_below_zero c.before.args.x c.if-x.false
 
 pub reading_fits_spec : {M : Type 1} → statement M
 reading_fits_spec = tie.close (tie.spec returns returns_2)

@@ -20,23 +20,23 @@ facts : (c : tie.Start)
     → Fields c.args.x (to_bits binary32 c.args.x % 2147483648 / 8388608) (to_bits binary32 c.args.x % 8388608) c.args.numerator c.args.denominator
 facts c = fields_of c.args.x c.args.numerator c.args.denominator (held c) c.requires.0 c.requires.1 c.requires.2
 
-returns : tie.Need-returns
-returns c = sym ((facts c.before).none c.if1.true)
+returns : tie.Need-returns-then-field-eq0
+returns c = sym ((facts c.before).none c.if-field-eq0.true)
 
 mul_scaled : tie.Need-overflow-mul-scaled
 mul_scaled c =
     let start = c.before in
     record { fits = fits_64 (to_bits binary32 start.args.x % 8388608) start.args.numerator (mod-lt (to_bits binary32 start.args.x) (lit< tt)) start.requires.1 }
 
-returns_2 : tie.Need-returns-2
-returns_2 c = sym ((facts c.before.before).some c.before.if1.false)
+returns_2 : tie.Need-returns-then-shift-lt64
+returns_2 c = sym ((facts c.before.before).some c.before.if-field-eq0.false)
 
-returns_3 : tie.Need-returns-3
+returns_3 : tie.Need-returns-else-shift-lt64
 returns_3 c =
     let start = c.before.before in
     let digits = to_bits binary32 start.args.x % 8388608 in
     let fit = fits_64 digits start.args.numerator (mod-lt (to_bits binary32 start.args.x) (lit< tt)) start.requires.1 in
-    sym ((facts start).some c.before.if1.false ∙ shifted_out ((8388608 + digits) * start.args.numerator) start.args.denominator _ fit c.if2.false)
+    sym ((facts start).some c.before.if-field-eq0.false ∙ shifted_out ((8388608 + digits) * start.args.numerator) start.args.denominator _ fit c.if-shift-lt64.false)
 
 pub scaled_floor_spec : {M : Type 1} → statement M
 scaled_floor_spec =

@@ -8,14 +8,14 @@ use Rattle.river.proofs.River.fresh.Statement.{statement}
 use Rattle.river.proofs.River.fresh.Tie as tie
 
 -- Accepted.
-returns : tie.Need-returns
+returns : tie.Need-returns-then-in_range
 unfolding fresh_answer first_holding cells_fit
-returns c = rw (sym c.before.before.in_range.ensures ∙ c.before.if1.true, c.zero-river.ensures)
+returns c = rw (sym c.before.before.in_range.ensures ∙ c.before.if-in_range.true, c.zero_river.ensures)
 
 -- Refused by 4.
-returns_2 : tie.Need-returns-2
+returns_2 : tie.Need-returns-else-in_range
 unfolding fresh_answer first_holding cells_fit
-returns_2 c = rw (sym c.before.before.in_range.ensures ∙ c.before.if1.false, c.zero-river2.ensures)
+returns_2 c = rw (sym c.before.before.in_range.ensures ∙ c.before.if-in_range.false, c.zero_river-else-in_range.ensures)
 
 pub fresh_spec : {M : Type 1} → statement M
 fresh_spec =

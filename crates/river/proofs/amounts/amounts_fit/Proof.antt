@@ -10,19 +10,19 @@ use Rattle.river.proofs.Rivers.{amounts-parts}
 use Rattle.river.proofs.amounts.amounts_fit.Statement.{statement}
 use Rattle.river.proofs.amounts.amounts_fit.Tie as tie
 
-parts : (c : tie.After-first-cells-fit) → let a = c.before.args in
+parts : (c : tie.After-first_cells_fit) → let a = c.before.args in
     amounts_fit a.n a.amounts.now
-    ≡ c.first-cells-fit.result && no_amount_from (a.n * substances) a.amounts.now
+    ≡ c.first_cells_fit.result && no_amount_from (a.n * substances) a.amounts.now
 parts c =
     let a = c.before.args in
-    rw (amounts-parts a.n a.amounts.now c.before.requires, c.first-cells-fit.ensures)
+    rw (amounts-parts a.n a.amounts.now c.before.requires, c.first_cells_fit.ensures)
 
-returns : tie.Need-returns
-returns c = rw (parts c.before.before, c.before.if1.true) c.no-amount-from.ensures
+returns : tie.Need-returns-then-first_cells_fit
+returns c = rw (parts c.before.before, c.before.if-first_cells_fit.true) c.no_amount_from.ensures
 
 -- An amount of a cell does not fit.
-returns_2 : tie.Need-returns-2
-returns_2 c = rw (parts c.before, c.if1.false)
+returns_2 : tie.Need-returns-else-first_cells_fit
+returns_2 c = rw (parts c.before, c.if-first_cells_fit.false)
 
 pub amounts_fit_spec : {M : Type 1} → statement M
 amounts_fit_spec =

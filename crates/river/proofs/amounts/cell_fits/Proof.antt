@@ -8,16 +8,16 @@ use Rattle.river.proofs.amounts.cell_fits.Statement.{statement}
 use Rattle.river.proofs.amounts.cell_fits.Tie as tie
 
 -- The runs pass.
-returns : tie.Need-returns
+returns : tie.Need-returns-then-runs_fit
 returns c =
     let at_runs = c.before in
     let args = at_runs.before.args in
-    sym (run-every args.amounts.now args.start substances (at_runs.Runs-Fit.ensures c.if1.true))
+    sym (run-every args.amounts.now args.start substances (at_runs.runs_fit.ensures c.if-runs_fit.true))
 
-returns_2 : tie.Need-returns-2
+returns_2 : tie.Need-returns
 returns_2 c =
     let args = c.before.before.before.args in
-    let tested = c.each-amount-fits in
+    let tested = c.each_amount_fits in
     run_decides args.amounts.now args.start substances tested.result tested.ensures.0 tested.ensures.1
 
 pub cell_fits_spec : {M : Type 1} → statement M

@@ -8,29 +8,29 @@ use Rattle.river.specs.Inner.Parts.{first_cells_fit}
 use Rattle.river.proofs.amounts.first_cells_fit.Statement.{statement}
 use Rattle.river.proofs.amounts.first_cells_fit.Tie as tie
 
-abbrev invariant-loop : tie.invariant-loop
+abbrev invariant-loop : tie.invariant-loop-c
 invariant-loop n amounts c₀ c = (c ≤ n) × (first_cells_fit c amounts ≡ true)
 
-abbrev decreases-loop : tie.decreases-loop
+abbrev decreases-loop : tie.decreases-loop-c
 decreases-loop n amounts c₀ c = n - c
 
-loop_again : tie.Need-loop-preserved invariant-loop decreases-loop
+loop_again : tie.Need-loop-c-preserved invariant-loop decreases-loop
 loop_again c =
     let at_loop = c.before.before.before in
-    (omega arith, every_more _ _ at_loop.loop.invariant.1 (sym c.before.cell_fits.ensures ∙ c.if1.true))
+    (omega arith, every_more _ _ at_loop.loop-c.invariant.1 (sym c.before.cell_fits.ensures ∙ c.if-cell_fits.true))
 
 -- A cell that does not fit.
-returns : tie.Need-returns invariant-loop decreases-loop
+returns : tie.Need-returns-else-cell_fits invariant-loop decreases-loop
 returns c =
     let at_loop = c.before.before.before in
-    sym (every_fails _ at_loop.loop.c _ (omega arith) (sym c.before.cell_fits.ensures ∙ c.if1.false))
+    sym (every_fails _ at_loop.loop-c.c _ (omega arith) (sym c.before.cell_fits.ensures ∙ c.if-cell_fits.false))
 
 -- All fit.
-returns_2 : tie.Need-returns-2 invariant-loop decreases-loop
+returns_2 : tie.Need-returns invariant-loop decreases-loop
 returns_2 c =
     let at_start = c.before.before in
-    let all : c.before.loop.c ≡ at_start.args.n = omega arith in
-    sym (rw all at c.before.loop.invariant.1)
+    let all : c.before.loop-c.c ≡ at_start.args.n = omega arith in
+    sym (rw all at c.before.loop-c.invariant.1)
 
 pub first_cells_fit_spec : {M : Type 1} → statement M
 first_cells_fit_spec =

@@ -10,29 +10,29 @@ use Rattle.river.proofs.amounts.highest.Statement.{statement}
 use Rattle.river.proofs.amounts.highest.Tie as tie
 
 -- An organic.
-returns : tie.Need-returns
+returns : tie.Need-returns-then-is_organic
 returns c =
     let at_start = c.before.before in
-    rw (highest_kind at_start.args.s at_start.requires, sym c.before.is-organic.ensures ∙ c.if1.true)
+    rw (highest_kind at_start.args.s at_start.requires, sym c.before.is_organic.ensures ∙ c.if-is_organic.true)
 
 -- No organic: by what the second test answers.
-other : (c : tie.After-is-net-change)
-    → highest_at c.before.before.before.args.s ≡ cond c.is-net-change.result (pos most_net) (pos most_grains)
+other : (c : tie.After-is_net_change)
+    → highest_at c.before.before.before.args.s ≡ cond c.is_net_change.result (pos most_net) (pos most_grains)
 other c =
     let tested = c.before.before in
     let at_start = tested.before in
     rw (
       highest_kind at_start.args.s at_start.requires,
-      sym tested.is-organic.ensures ∙ c.before.if1.false,
-      c.is-net-change.ensures,
+      sym tested.is_organic.ensures ∙ c.before.if-is_organic.false,
+      c.is_net_change.ensures,
     )
 
 -- A net change; neither.
-returns_2 : tie.Need-returns-2
-returns_2 c = rw (other c.before, c.if2.true)
+returns_2 : tie.Need-returns-then-is_net_change
+returns_2 c = rw (other c.before, c.if-is_net_change.true)
 
-returns_3 : tie.Need-returns-3
-returns_3 c = rw (other c.before, c.if2.false)
+returns_3 : tie.Need-returns-else-is_net_change
+returns_3 c = rw (other c.before, c.if-is_net_change.false)
 
 pub highest_spec : {M : Type 1} → statement M
 highest_spec =

@@ -16,36 +16,36 @@ use Rattle.river.specs.Rivers.{most_cells}
 use Rattle.river.proofs.amounts.no_amount_from.Statement.{statement}
 use Rattle.river.proofs.amounts.no_amount_from.Tie as tie
 
-abbrev invariant-loop : tie.invariant-loop
+abbrev invariant-loop : tie.invariant-loop-i
 invariant-loop start amounts count i₀ i =
     (i ≤ most_cells * substances - start) × (every i (λ j. eqb (nat_abs (get_or amounts (start + j) (pos 0))) 0) ≡ true)
 
-abbrev decreases-loop : tie.decreases-loop
+abbrev decreases-loop : tie.decreases-loop-i
 decreases-loop start amounts count i₀ i = most_cells * substances - start - i
 
 -- The amount that a turn tests, by its bits.
-abbrev tested : tie.At-loop invariant-loop decreases-loop → ℤ
-tested c = get_or c.before.args.amounts.now (c.before.args.start + c.loop.i) (pos 0)
+abbrev tested : tie.At-loop-i invariant-loop decreases-loop → ℤ
+tested c = get_or c.before.args.amounts.now (c.before.args.start + c.loop-i.i) (pos 0)
 
-loop_again : tie.Need-loop-preserved invariant-loop decreases-loop
+loop_again : tie.Need-loop-i-preserved invariant-loop decreases-loop
 loop_again c =
     let at_loop = c.before.before.before in
-    let same = zero_bits (tested at_loop) (sfits_of c.before.if12.given) in
-    (omega arith, every_more _ _ at_loop.loop.invariant.1 (sym same ∙ eq-eqb _ 0 c.if1.true))
+    let same = zero_bits (tested at_loop) (sfits_of c.before.t10-1.given) in
+    (omega arith, every_more _ _ at_loop.loop-i.invariant.1 (sym same ∙ eq-eqb _ 0 c.if-amounts-start-eq0.true))
 
 -- An amount that is not 0.
-returns : tie.Need-returns invariant-loop decreases-loop
+returns : tie.Need-returns-else-amounts-start-eq0 invariant-loop decreases-loop
 returns c =
     let at_loop = c.before.before.before in
-    let same = zero_bits (tested at_loop) (sfits_of c.before.if12.given) in
-    sym (every_fails _ at_loop.loop.i _ (omega arith) (sym same ∙ ne_eqb _ 0 c.if1.false))
+    let same = zero_bits (tested at_loop) (sfits_of c.before.t10-1.given) in
+    sym (every_fails _ at_loop.loop-i.i _ (omega arith) (sym same ∙ ne_eqb _ 0 c.if-amounts-start-eq0.false))
 
 -- All are zeros.
-returns_2 : tie.Need-returns-2 invariant-loop decreases-loop
+returns_2 : tie.Need-returns invariant-loop decreases-loop
 returns_2 c =
     let at_loop = c.before in
-    let all : at_loop.loop.i ≡ most_cells * substances - at_loop.before.args.start = omega arith in
-    sym (rw all at at_loop.loop.invariant.1)
+    let all : at_loop.loop-i.i ≡ most_cells * substances - at_loop.before.args.start = omega arith in
+    sym (rw all at at_loop.loop-i.invariant.1)
 
 pub no_amount_from_spec : {M : Type 1} → statement M
 no_amount_from_spec =

@@ -10,19 +10,19 @@ use Rattle.river.proofs.Rivers.{carries-parts}
 use Rattle.river.proofs.carries.carries_fit.Statement.{statement}
 use Rattle.river.proofs.carries.carries_fit.Tie as tie
 
-parts : (c : tie.After-first-carries-fit) → let a = c.before.args in
+parts : (c : tie.After-first_carries_fit) → let a = c.before.args in
     carries_fit a.n a.carries.now
-    ≡ c.first-carries-fit.result && no_carry_from (a.n * processes) a.carries.now
+    ≡ c.first_carries_fit.result && no_carry_from (a.n * processes) a.carries.now
 parts c =
     let a = c.before.args in
-    rw (carries-parts a.n a.carries.now c.before.requires, c.first-carries-fit.ensures)
+    rw (carries-parts a.n a.carries.now c.before.requires, c.first_carries_fit.ensures)
 
-returns : tie.Need-returns
-returns c = rw (parts c.before.before, c.before.if1.true) c.no-carry-from.ensures
+returns : tie.Need-returns-then-first_carries_fit
+returns c = rw (parts c.before.before, c.before.if-first_carries_fit.true) c.no_carry_from.ensures
 
 -- A carry of a cell is too high.
-returns_2 : tie.Need-returns-2
-returns_2 c = rw (parts c.before, c.if1.false)
+returns_2 : tie.Need-returns-else-first_carries_fit
+returns_2 c = rw (parts c.before, c.if-first_carries_fit.false)
 
 pub carries_fit_spec : {M : Type 1} → statement M
 carries_fit_spec =

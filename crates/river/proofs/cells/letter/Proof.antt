@@ -13,10 +13,10 @@ returns c =
     let levelled = c.before in
     let first = levelled.before in
     let start = first.before in
-    c.letter-by.ensures
+    c.letter_by.ensures
     ∙ ap₂ letter_by
     (rw (to_z-of_z start.ranges.oxygen) at first.level.ensures)
-    (rw (to_z-of_z start.ranges.ammonium) at levelled.level2.ensures)
+    (rw (to_z-of_z start.ranges.ammonium) at levelled.level-2.ensures)
 
 pub letter_spec : {M : Type 1} → statement M
 letter_spec =

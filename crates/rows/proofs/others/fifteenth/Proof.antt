@@ -13,13 +13,13 @@ use Rattle.rows.proofs.others.fifteenth.Statement.{statement}
 use Rattle.rows.proofs.others.fifteenth.Tie as tie
 
 -- All fields are read first, so every need has the same context.
-abbrev start : tie.After-struct-told9 → tie.Start
+abbrev start : tie.After-struct_told-9-1 → tie.Start
 start c =
     let told5 = c.before.before.before.before in
     let told1 = told5.before.before.before.before in
     told1.before
 
-known : (c : tie.After-struct-told9) → Bounded (atoms (start c).args.r (start c).args.k []) (limits [])
+known : (c : tie.After-struct_told-9-1) → Bounded (atoms (start c).args.r (start c).args.k []) (limits [])
 known c = atoms_bounded (start c).requires.0 (start c).requires.1 all
 
 returns : tie.Need-returns

@@ -8,6 +8,6 @@ form_of_spec =
     tie.close
     (tie.spec
     (λ c. search rules) (λ c. search rules) (λ c. search rules)
-    (λ c. rw c.enum_told.given.1)
-    (λ c. rw c.enum-told2.given.1)
-    (λ c. rw c.enum-told3.given.1))
+    (λ c. rw c.enum_told-1.given.1)
+    (λ c. rw c.enum_told-in-No3-1.given.1)
+    (λ c. rw c.enum_told-in-No2-1.given.1))

@@ -9,13 +9,13 @@ returns : tie.Need-returns
 returns c =
     let at_turned = c.before in
     let at_form = at_turned.before in
-    let form = at_form.struct_told.given in
-    let turned = at_turned.struct-told2.given in
-    let reduced = c.struct-told3.given in
+    let form = at_form.struct_told-1.given in
+    let turned = at_turned.struct_told-2-1.given in
+    let reduced = c.struct_told-3-1.given in
     let called = at_form.before in
-    let f = called.before.before.form_of in
-    let t = called.before.turned_by in
-    let r = called.reduced-by in
+    let f = called.before.before.form_of-form in
+    let t = called.before.turned_by-turned in
+    let r = called.reduced_by-reduced in
     (λ i.
     record {
       nitrate = kept_is f.result.0 form.0.1 i;

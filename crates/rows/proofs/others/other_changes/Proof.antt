@@ -15,14 +15,14 @@ use Rattle.rows.proofs.others.other_changes.Statement.{statement}
 use Rattle.rows.proofs.others.other_changes.Tie as tie
 
 -- All fields are read first, so every need has the same context.
-abbrev start : tie.After-struct-told12 → tie.Start
+abbrev start : tie.After-struct_told-12-1 → tie.Start
 start c =
     let told8 = c.before.before.before.before in
     let told4 = told8.before.before.before.before in
     told4.before.before.before.before
 
 known :
-    (c : tie.After-struct-told12) →
+    (c : tie.After-struct_told-12-1) →
     Bounded (atoms (start c).args.r (start c).args.k ((start c).args.e ∷ [])) (limits (most_fifteenth ∷ []))
 known c = let pre = (start c).requires in atoms_bounded pre.0 pre.1 (pre.2 & all)
 

@@ -8,27 +8,27 @@ use borrow.Author.Rules.{rules}
 use Rattle.rows.proofs.others.others_of.Statement.{statement}
 use Rattle.rows.proofs.others.others_of.Tie as tie
 
-kind_in_lem : (c : tie.After-kind-of) → InKind c.kind-of.result
+kind_in_lem : (c : tie.After-kind_of-k) → InKind c.kind_of-k.result
 kind_in_lem c =
     let start = c.before.before in
     let a = start.args in
-    rw c.kind-of.ensures (kind_small a.n a.f a.a start.requires.3)
+    rw c.kind_of-k.ensures (kind_small a.n a.f a.a start.requires.3)
 
-other-changes_requires : tie.Need-other-changes-requires
+other-changes_requires : tie.Need-other_changes-requires
 other-changes_requires c κs =
-    let r = c.before.before.released-by.ensures.1 in
+    let r = c.before.before.released_by-r.ensures.1 in
     let k = kind_in_lem c.before in
-    (r, k, rw (result_is _ c.fifteenth.ensures c.fifteenth.type-inv) (fifteenth_bound _ _ r k))
+    (r, k, rw (result_is _ c.fifteenth-e.ensures c.fifteenth-e.type-inv) (fifteenth_bound _ _ r k))
 
 returns : tie.Need-returns
 unfolding others_from
 returns c =
     let after_e = c.before in
     let after-k = after_e.before in
-    let released = after-k.before.released-by.ensures.0 in
+    let released = after-k.before.released_by-r.ensures.0 in
     let f = after-k.before.before.ranges in
-    rw (c.other-changes.ensures, result_is _ after_e.fifteenth.ensures after_e.fifteenth.type-inv)
-    (rw (after-k.kind-of.ensures, released) (rw (to_z-of_z f.x, to_z-of_z f.y, to_z-of_z f.z)))
+    rw (c.other_changes.ensures, result_is _ after_e.fifteenth-e.ensures after_e.fifteenth-e.type-inv)
+    (rw (after-k.kind_of-k.ensures, released) (rw (to_z-of_z f.x, to_z-of_z f.y, to_z-of_z f.z)))
 
 pub others_of_spec : {M : Type 1} → statement M
 others_of_spec =
@@ -36,6 +36,6 @@ others_of_spec =
     (tie.spec
     (λ c κs. let pre = c.requires in (pre.0, pre.1, pre.2))
     (λ c κs. search rules)
-    (λ c κs. (c.before.released-by.ensures.1, kind_in_lem c))
+    (λ c κs. (c.before.released_by-r.ensures.1, kind_in_lem c))
     other-changes_requires
     returns)

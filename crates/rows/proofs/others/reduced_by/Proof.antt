@@ -8,7 +8,7 @@ reduced_by_spec =
     tie.close
     (tie.spec
     (λ c. search rules) (λ c. search rules) (λ c. search rules) (λ c. search rules)
-    (λ c. rw c.enum_told.given.1)
-    (λ c. rw c.enum-told2.given.1)
-    (λ c. rw c.enum-told3.given.1)
-    (λ c. rw c.enum-told4.given.1))
+    (λ c. rw c.enum_told-1.given.1)
+    (λ c. rw c.enum_told-in-No3ToNo2-1.given.1)
+    (λ c. rw c.enum_told-in-No2ToN2-1.given.1)
+    (λ c. rw c.enum_told-in-No3ToN2-1.given.1))

@@ -14,24 +14,24 @@ use Rattle.rows.specs.Inner.Code.{row_copied}
 use Rattle.rows.proofs.row.copy_row.Statement.{statement}
 use Rattle.rows.proofs.row.copy_row.Tie as tie
 
-abbrev invariant-loop : tie.invariant-loop
+abbrev invariant-loop : tie.invariant-loop-s
 invariant-loop entries₀ at row s₀ entries s = (s ≤ substances) × (entries ≡ run entries₀ at s (λ k. get_or row k (pos 0)))
 
-abbrev decreases-loop : tie.decreases-loop
+abbrev decreases-loop : tie.decreases-loop-s
 decreases-loop entries₀ at row s₀ entries s = substances - s
 
-loop_again : tie.Need-loop-preserved invariant-loop decreases-loop
+loop_again : tie.Need-loop-s-preserved invariant-loop decreases-loop
 loop_again c =
     let at_loop = c.before.before in (
       omega arith,
-      run_more _ _ at_loop.loop.s _ _ _ at_loop.loop.invariant.1 (to_z-of_z (sfits_of c.entries.given)),
+      run_more _ _ at_loop.loop-s.s _ _ _ at_loop.loop-s.invariant.1 (to_z-of_z (sfits_of c.entries-1.given)),
     )
 
 returns : tie.Need-returns invariant-loop decreases-loop
 unfolding row_copied
 returns c =
-    let all_stored : c.before.loop.s ≡ substances = omega arith in
-    rw all_stored at c.before.loop.invariant.1
+    let all_stored : c.before.loop-s.s ≡ substances = omega arith in
+    rw all_stored at c.before.loop-s.invariant.1
 
 pub copy_row_spec : {M : Type 1} → statement M
 copy_row_spec =

@@ -11,10 +11,10 @@ use borrow.Author.Rules.{rules}
 use Rattle.rows.proofs.row.put.Statement.{statement}
 use Rattle.rows.proofs.row.put.Tie as tie
 
-abbrev start : tie.After-copy-row → tie.Start
+abbrev start : tie.After-copy_row → tie.Start
 start c = c.before.before.before.before
 
-e_fits : (c : tie.After-struct-told) → SFits w64 (start c.before).args.d.e
+e_fits : (c : tie.After-struct_told-1) → SFits w64 (start c.before).args.d.e
 e_fits c = search rules
 
 returns : tie.Need-returns
@@ -26,7 +26,7 @@ returns c =
     let f = made.before.ranges in
     let line = made.row.ensures
     ∙ λ t. row_list (line_of a.x (to_z-of_z f.dx t) a.y (to_z-of_z f.dy t) a.z (to_z-of_z f.dz t)) a.d in (
-      copied.copy-row.ensures ∙ (λ t. row_copied (a.p * substances) (line t) a.entries.now),
+      copied.copy_row.ensures ∙ (λ t. row_copied (a.p * substances) (line t) a.entries.now),
       λ t. set a.oxygen.now a.p (to_z-of_z (e_fits c) t),
     )
 

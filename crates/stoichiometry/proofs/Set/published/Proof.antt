@@ -8,14 +8,14 @@ use Rattle.stoichiometry.proofs.Set.published.Statement.{statement}
 use Rattle.stoichiometry.proofs.Set.published.Tie as tie
 
 -- Accepted.
-returns : tie.Need-returns
+returns : tie.Need-returns-then-constants_fit
 unfolding published_answer first_holding
-returns c = rw (sym c.before.before.constants_fit.ensures ∙ c.before.if1.true, c.published-set.ensures)
+returns c = rw (sym c.before.before.constants_fit.ensures ∙ c.before.if-constants_fit.true, c.published_set.ensures)
 
 -- Refused by 2.
-returns_2 : tie.Need-returns-2
+returns_2 : tie.Need-returns-else-constants_fit
 unfolding published_answer first_holding
-returns_2 c = rw (sym c.before.before.constants_fit.ensures ∙ c.before.if1.false, c.zero-set.ensures)
+returns_2 c = rw (sym c.before.before.constants_fit.ensures ∙ c.before.if-constants_fit.false, c.zero_set.ensures)
 
 pub published_spec : {M : Type 1} → statement M
 published_spec =

@@ -10,7 +10,7 @@ unfolding constants_fit
 returns c =
     let at_half = c.before in
     let at_rates = at_half.before.before in
-    rw (c.both.ensures, at_rates.all-in-range.ensures, at_half.all-in-range2.ensures)
+    rw (c.both.ensures, at_rates.all_in_range.ensures, at_half.all_in_range-2.ensures)
 
 pub constants_fit_spec : {M : Type 1} → statement M
 constants_fit_spec =

@@ -33,21 +33,21 @@ returns c =
     let at_si = at_dissolved.before in
     let at_ss = at_si.before in
     rw (
-      c.both7.ensures,
-      c.before.both6.ensures,
-      at_dissolved.both.ensures,
-      at_bacteria.both3.ensures,
-      at_xn1-xn2.both2.ensures,
-      at_others.both5.ensures,
-      at_xs-xi.both4.ensures,
+      c.both-4.ensures,
+      c.before.both-3.ensures,
+      at_dissolved.both-dissolved.ensures,
+      at_bacteria.both-bacteria.ensures,
+      at_xn1-xn2.both.ensures,
+      at_others.both-others.ensures,
+      at_xs-xi.both-2.ensures,
       at_ss.adds_up.ensures,
-      at_si.adds-up2.ensures,
-      at_xh.adds-up3.ensures,
-      at_xn1.adds-up4.ensures,
-      at_xn2.adds-up5.ensures,
-      at_xalg.adds-up6.ensures,
-      at_xs.adds-up7.ensures,
-      at_xi.adds-up8.ensures,
+      at_si.adds_up-2.ensures,
+      at_xh.adds_up-3.ensures,
+      at_xn1.adds_up-4.ensures,
+      at_xn2.adds_up-5.ensures,
+      at_xalg.adds_up-6.ensures,
+      at_xs.adds_up-7.ensures,
+      at_xi.adds_up-8.ensures,
     )
     (grouped _)
 

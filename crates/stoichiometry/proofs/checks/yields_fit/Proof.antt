@@ -10,7 +10,7 @@ unfolding yields_fit
 returns c =
     let at_inert = c.before in
     let at_yields = at_inert.before.before in
-    rw (c.both.ensures, at_yields.all-in-range.ensures, at_inert.all-in-range2.ensures)
+    rw (c.both.ensures, at_yields.all_in_range.ensures, at_inert.all_in_range-2.ensures)
 
 pub yields_fit_spec : {M : Type 1} → statement M
 yields_fit_spec =

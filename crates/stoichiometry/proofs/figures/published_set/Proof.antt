@@ -14,14 +14,14 @@ returns c =
     let at_si = at_xh.before in
     let at_ss = at_si.before in
     rw (
-      at_ss.fractions-of.ensures,
-      at_si.fractions-of2.ensures,
-      at_xh.fractions-of3.ensures,
-      at_xn1.fractions-of4.ensures,
-      at_xn2.fractions-of5.ensures,
-      at_xalg.fractions-of6.ensures,
-      at_xs.fractions-of7.ensures,
-      c.fractions-of8.ensures,
+      at_ss.fractions_of.ensures,
+      at_si.fractions_of-2.ensures,
+      at_xh.fractions_of-3.ensures,
+      at_xn1.fractions_of-4.ensures,
+      at_xn2.fractions_of-5.ensures,
+      at_xalg.fractions_of-6.ensures,
+      at_xs.fractions_of-7.ensures,
+      c.fractions_of-8.ensures,
     )
 
 pub published_set_spec : {M : Type 1} → statement M

@@ -7,7 +7,7 @@ use Rattle.stoichiometry.proofs.HalfSaturations.all.Reads as HalfSaturations-all
 use Rattle.stoichiometry.proofs.RateConstants.all.Reads as RateConstants-all-reads
 
 returns : tie.Need-returns
-returns c = rw (c.before.before.fractions-of.ensures, c.before.all.ensures, c.all2.ensures)
+returns c = rw (c.before.before.fractions_of-none.ensures, c.before.all.ensures, c.all-2.ensures)
 
 pub zero_set_spec : {M : Type 1} → statement M
 zero_set_spec = tie.close (tie.spec (λ c κs. search rules) (λ c κs. search rules) (λ c κs. search rules) returns)

@@ -9,13 +9,13 @@ use borrow.Author.Rules.{rules}
 use Rattle.text.proofs.digits.write_below_10.Statement.{statement}
 use Rattle.text.proofs.digits.write_below_10.Tie as tie
 
-returns : tie.Need-returns
+returns : tie.Need-returns-then-n-eq0
 returns c =
     let at_mark = c.before.before in
     let none : at_mark.before.before.before.before.args.n ≡ 0 = omega arith in
-    rw none at_mark.write-mark.ensures
+    rw none at_mark.write_mark.ensures
 
-write_mark_requires_2 : tie.Need-write-mark-requires-2
+write_mark_requires_2 : tie.Need-write_mark-requires-2
 write_mark_requires_2 c κs =
     let start = c.before.before.before.before in
     let args = start.args in
@@ -25,13 +25,13 @@ write_mark_requires_2 c κs =
           (omega arith) (omega arith),
     )
 
-returns_3 : tie.Need-returns-3
+returns_3 : tie.Need-returns
 returns_3 c =
     let at_mark = c.before.before in
     let stored = at_mark.before.before.before in
     let start = stored.before.before in
     let args = start.args in
-    at_mark.write-mark2.ensures
+    at_mark.write_mark-2.ensures
     ∙ digit_turn args.out.now args.at args.width args.mark args.n
     (omega arith) start.requires.0.1 (omega arith) start.requires.0.0
 
@@ -44,5 +44,5 @@ write_below_10_spec =
     (λ c. sym (columns_end _ _ _ _ _ (omega arith)))
     (λ c. search rules) (λ c. search rules) (λ c. search rules) (λ c. search rules) (λ c. search rules)
     write_mark_requires_2
-    (λ c. c.before.before.write-mark2.auto.0 ∙ simp length-set)
+    (λ c. c.before.before.write_mark-2.auto.out ∙ simp length-set)
     returns_3)

@@ -7,17 +7,17 @@ use borrow.Author.Rules.{rules}
 use Rattle.text.proofs.digits.write_mark.Statement.{statement}
 use Rattle.text.proofs.digits.write_mark.Tie as tie
 
-returns : tie.Need-returns
+returns : tie.Need-returns-then-mark-eq32
 returns c =
     let start = c.before in
-    sym (blank_end start.args.out.now _ _ _ 0 start.requires.1 start.requires.0 refl c.if1.true)
+    sym (blank_end start.args.out.now _ _ _ 0 start.requires.1 start.requires.0 refl c.if-mark-eq32.true)
 
-returns_2 : tie.Need-returns-2
+returns_2 : tie.Need-returns-then-width-eq0
 returns_2 c =
     let args = c.before.before.args in
     sym (columns_end args.out.now args.at args.width args.mark 0 (omega arith))
 
-returns_3 : tie.Need-returns-3
+returns_3 : tie.Need-returns
 returns_3 c =
     let start = c.before.before in
     let args = start.args in

@@ -8,48 +8,48 @@ use Rattle.text.proofs.writing.write_plain.Statement.{statement}
 use Rattle.text.proofs.writing.write_plain.Tie as tie
 
 -- The start, from the call that writes blanks, which leaves the length.
-abbrev begun : tie.After-write-blanks → tie.Start
+abbrev begun : tie.After-write_blanks → tie.Start
 begun c = c.before.before.before
 
-long : (c : tie.After-write-blanks) → length c.write-blanks.new.0 ≡ length (begun c).args.out.now
-long c = c.write-blanks.auto.0
+long : (c : tie.After-write_blanks) → length c.write_blanks.new.out ≡ length (begun c).args.out.now
+long c = c.write_blanks.auto.out
 
-write_mark_requires : tie.Need-write-mark-requires
+write_mark_requires : tie.Need-write_mark-requires
 write_mark_requires c κs =
     let at_blanks = c.before.before.before.before in
     let pre = (begun at_blanks).requires in
-    let blanks = at_blanks.write-blanks.ensures in
+    let blanks = at_blanks.write_blanks.ensures in
     (simp length-set (omega (arith, long at_blanks)), zero_blank _ _ _ _ pre.0 pre.1 blanks)
 
-same_length : tie.Need-same-length
+same_length : tie.Need-shape_of-out-then-n-eq0
 same_length c =
     let at_mark = c.before.before in
     let stored = at_mark.before.before.before in
-    at_mark.write-mark.auto.0 ∙ simp length-set (long stored.before.before)
+    at_mark.write_mark.auto.out ∙ simp length-set (long stored.before.before)
 
-returns : tie.Need-returns
+returns : tie.Need-returns-then-n-eq0
 returns c =
     let at_mark = c.before.before in
     let zero = at_mark.before.before.before in
     let at_blanks = zero.before.before in
     let pre = (begun at_blanks).requires in
-    zero_written _ _ _ _ pre.0 pre.1 at_blanks.write-blanks.ensures _ _ _ (omega arith)
-    at_mark.write-mark.ensures
+    zero_written _ _ _ _ pre.0 pre.1 at_blanks.write_blanks.ensures _ _ _ (omega arith)
+    at_mark.write_mark.ensures
 
-write_columns_requires : tie.Need-write-columns-requires
+write_columns_requires : tie.Need-write_columns-requires
 write_columns_requires c κs =
     let at_blanks = c.before.before.before.before in
     let pre = (begun at_blanks).requires in
-    (omega (arith, long at_blanks), over_blank _ _ _ _ pre.0 pre.1 at_blanks.write-blanks.ensures)
+    (omega (arith, long at_blanks), over_blank _ _ _ _ pre.0 pre.1 at_blanks.write_blanks.ensures)
 
-returns_2 : tie.Need-returns-2
+returns_2 : tie.Need-returns
 returns_2 c =
     let at_columns = c.before.before in
     let digits = at_columns.before.before in
     let at_blanks = digits.before.before.before in
     let pre = (begun at_blanks).requires in
-    digits_written _ _ _ _ pre.0 pre.1 at_blanks.write-blanks.ensures _ _ _ digits.if1.false
-    at_columns.write-columns.ensures
+    digits_written _ _ _ _ pre.0 pre.1 at_blanks.write_blanks.ensures _ _ _ digits.if-n-eq0.false
+    at_columns.write_columns.ensures
 
 pub write_plain_spec : {M : Type 1} → statement M
 write_plain_spec =

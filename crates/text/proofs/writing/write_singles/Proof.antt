@@ -12,29 +12,29 @@ use Rattle.text.proofs.DecimalLaws.{columns_turn, columns_end, blank_set, blank_
 use Rattle.text.proofs.writing.write_singles.Statement.{statement}
 use Rattle.text.proofs.writing.write_singles.Tie as tie
 
-abbrev invariant-loop : tie.invariant-loop
+abbrev invariant-loop : tie.invariant-loop-i
 invariant-loop out₀ at width mark n i₀ m₀ rest₀ out i m rest =
     (put out at (columns i m rest) ≡ put out₀ at (columns width mark n))
     × Blank out at i
     × (i ≤ width)
     × (length out ≡ length out₀)
 
-abbrev decreases-loop : tie.decreases-loop
+abbrev decreases-loop : tie.decreases-loop-i
 decreases-loop out₀ at width mark n i₀ m₀ rest₀ out i m rest = i
 
 -- Only blanks are left, and they are there.
-returns : tie.Need-returns invariant-loop decreases-loop
+returns : tie.Need-returns-then-m-eq32 invariant-loop decreases-loop
 returns c =
-    let now = c.before.before.before.loop in
+    let now = c.before.before.before.loop-i in
     let (left, blank, within, long) = now.invariant in
-    sym (blank_end now.out _ _ _ _ blank (omega arith) c.before.if1.true c.if2.true) ∙ left
+    sym (blank_end now.out _ _ _ _ blank (omega arith) c.before.if-rest-eq0.true c.if-m-eq32.true) ∙ left
 
-loop_again : tie.Need-loop-preserved invariant-loop decreases-loop
+loop_again : tie.Need-loop-i-preserved invariant-loop decreases-loop
 loop_again c =
     let at_glyph = c.before in
-    let now = at_glyph.before.before.before.loop in
+    let now = at_glyph.before.before.before.loop-i in
     let (left, blank, within, long) = now.invariant in (
-      columns_turn now.out _ _ _ _ _ _ (omega arith) (omega arith) at_glyph.glyph.ensures c.next-mark.ensures
+      columns_turn now.out _ _ _ _ _ _ (omega arith) (omega arith) at_glyph.glyph.ensures c.next_mark-m.ensures
           ∙ left,
       blank_set now.out _ _ _ _ _ blank (omega arith) (omega arith),
       omega arith,
@@ -42,9 +42,9 @@ loop_again c =
     )
 
 -- No column is left.
-returns_2 : tie.Need-returns-2 invariant-loop decreases-loop
+returns_2 : tie.Need-returns invariant-loop decreases-loop
 returns_2 c =
-    let now = c.before.loop in sym (columns_end now.out _ _ now.m now.rest (omega arith)) ∙ now.invariant.0
+    let now = c.before.loop-i in sym (columns_end now.out _ _ now.m now.rest (omega arith)) ∙ now.invariant.0
 
 pub write_singles_spec : {M : Type 1} → statement M
 write_singles_spec =
@@ -53,10 +53,10 @@ write_singles_spec =
     invariant-loop
     decreases-loop
     (λ c. (refl, c.before.requires.1, omega arith, refl))
-    (λ c. c.before.before.before.loop.invariant.3)
+    (λ c. c.before.before.before.loop-i.invariant.3)
     returns
     (λ c. omega arith) (λ c. omega arith) (λ c κs. search rules) (λ c. omega arith) (λ c κs. search rules)
     (λ c. omega arith)
     loop_again
-    (λ c. c.before.loop.invariant.3)
+    (λ c. c.before.loop-i.invariant.3)
     returns_2)

@@ -11,7 +11,7 @@ use Rattle.text_reading.proofs.reading.counted.Statement.{statement}
 use Rattle.text_reading.proofs.reading.counted.Tie as tie
 
 -- The value, within the limits or not.
-returns_3 : tie.Need-returns-3
+returns_3 : tie.Need-returns
 returns_3 c =
     let at_signed = c.before in
     let at_large = at_signed.before in
@@ -23,7 +23,7 @@ returns_3 c =
     ∙ ap₂ (λ (l h : ℤ). within l h (kept at_signed.signed.result))
     (to_z-of_z at_start.ranges.lowest) (to_z-of_z at_start.ranges.highest)
     ∙ ap (within args.lowest args.highest) value
-    ∙ sym (counted_within _ _ args.mark _ at_large.before.if1.false at_large.if2.false)
+    ∙ sym (counted_within _ _ args.mark _ at_large.before.if-size-eq0.false at_large.if-size-gt-LARGEST.false)
 
 pub counted_spec : {M : Type 1} → statement M
 counted_spec =
@@ -31,9 +31,9 @@ counted_spec =
     (tie.spec
     (λ c κs. search rules)
     -- No digit.
-    (λ c. c.none.ensures ∙ sym (counted_none _ _ c.before.before.args.mark _ c.before.if1.true))
+    (λ c. c.none.ensures ∙ sym (counted_none _ _ c.before.before.args.mark _ c.before.if-size-eq0.true))
     (λ c κs. search rules)
     -- Too large.
-    (λ c. c.none2.ensures ∙ sym (counted_large _ _ c.before.before.before.args.mark _ c.before.if2.true))
+    (λ c. c.none-then-size-gt-LARGEST.ensures ∙ sym (counted_large _ _ c.before.before.before.args.mark _ c.before.if-size-gt-LARGEST.true))
     (λ c κs. search rules) (λ c κs. search rules)
     returns_3)

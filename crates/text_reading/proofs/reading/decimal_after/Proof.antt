@@ -10,42 +10,42 @@ use Rattle.text_reading.proofs.reading.decimal_after.Statement.{statement}
 use Rattle.text_reading.proofs.reading.decimal_after.Tie as tie
 
 -- The start, from the test of a zero.
-abbrev begun : tie.Then2 → tie.Start
+abbrev begun : tie.Then-columns-start-eq48 → tie.Start
 begun c = c.before.before.before.before
 
 -- The text ends after blanks, or after a minus.
-returns : tie.Need-returns
+returns : tie.Need-returns-then-start-end
 returns c = c.none.ensures ∙ sym (empty_none _ _ _ _ _ c.before.before.before.requires (omega arith))
 
 -- A byte after a zero.
-returns_2 : tie.Need-returns-2
+returns_2 : tie.Need-returns-then-start-end-2
 returns_2 c =
     let at_zero = c.before.before in
-    c.none2.ensures ∙ sym (zeros-none _ _ _ _ _ (begun at_zero).requires (omega arith) at_zero.if2.true)
+    c.none-then-start-end-2.ensures ∙ sym (zeros-none _ _ _ _ _ (begun at_zero).requires (omega arith) at_zero.if-columns-start-eq48.true)
 
 -- A zero alone.
-returns_3 : tie.Need-returns-3
+returns_3 : tie.Need-returns-then-mark-eq32
 returns_3 c =
     let at_zero = c.before.before.before in
     let at_start = begun at_zero in
     c.within.ensures
     ∙ ap₂ (λ (l h : ℤ). within l h (pos 0)) (to_z-of_z at_start.fits.lowest) (to_z-of_z at_start.fits.highest)
     ∙ sym
-    (zero_read _ _ _ _ _ at_start.pre (omega arith) (omega arith) at_zero.if2.true c.before.if4.true)
+    (zero_read _ _ _ _ _ at_start.requires (omega arith) (omega arith) at_zero.if-columns-start-eq48.true c.before.if-mark-eq32.true)
 
 -- A zero after a minus.
-returns_4 : tie.Need-returns-4
+returns_4 : tie.Need-returns-then-columns-start-eq48
 returns_4 c =
     let at_zero = c.before.before.before in
-    c.none3.ensures
-    ∙ sym (minus_zero_none _ _ _ _ _ (begun at_zero).requires (omega arith) at_zero.if2.true c.before.if4.false)
+    c.none-then-columns-start-eq48.ensures
+    ∙ sym (minus_zero_none _ _ _ _ _ (begun at_zero).requires (omega arith) at_zero.if-columns-start-eq48.true c.before.if-mark-eq32.false)
 
 -- No zero.
-returns_5 : tie.Need-returns-5
+returns_5 : tie.Need-returns
 returns_5 c =
     let no_zero = c.before in
     let at_start = no_zero.before.before.before.before in
-    c.digits-after.ensures
+    c.digits_after.ensures
     ∙ ap₂ (λ (l h : ℤ). parse l h at_start.args.columns.now)
     (to_z-of_z at_start.ranges.lowest) (to_z-of_z at_start.ranges.highest)
 

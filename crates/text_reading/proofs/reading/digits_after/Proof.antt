@@ -19,64 +19,64 @@ use Rattle.text_reading.proofs.DigitLoop.{digits_not, two_not, digits_end, many_
 use Rattle.text_reading.proofs.reading.digits_after.Statement.{statement}
 use Rattle.text_reading.proofs.reading.digits_after.Tie as tie
 
-abbrev invariant-loop : tie.invariant-loop
+abbrev invariant-loop : tie.invariant-loop-k
 invariant-loop columns start mark lowest highest end size₀ k₀ size k = DigitsRead columns mark start size k
 
-abbrev decreases-loop : tie.decreases-loop
+abbrev decreases-loop : tie.decreases-loop-k
 decreases-loop columns start mark lowest highest end size₀ k₀ size k = length columns - k
 
 -- The start, from the loop; the turn in which two bytes are tested; a byte there.
-abbrev begun : tie.At-loop invariant-loop decreases-loop → tie.Start invariant-loop decreases-loop
+abbrev begun : tie.At-loop-k invariant-loop decreases-loop → tie.Start invariant-loop decreases-loop
 begun c = c.before.before.before
 
-abbrev turn_of : tie.After-both invariant-loop decreases-loop → tie.In-loop invariant-loop decreases-loop
+abbrev turn_of : tie.After-both invariant-loop decreases-loop → tie.In-loop-k invariant-loop decreases-loop
 turn_of c = let at_first = c.before.before in at_first.before.before.before
 
-abbrev byte_at : tie.At-loop invariant-loop decreases-loop → ℕ → ℕ
+abbrev byte_at : tie.At-loop-k invariant-loop decreases-loop → ℕ → ℕ
 byte_at c j = get_or (begun c).args.columns.now j 0
 
 tested : (c : tie.After-both invariant-loop decreases-loop)
     → let now = (turn_of c).before in
-    c.both.result ≡ is_digit (byte_at now now.loop.k) && is_digit (byte_at now (now.loop.k + 1))
-tested c = c.both.ensures ∙ ap₂ ◌&&◌ c.before.before.is_digit.ensures c.before.is-digit2.ensures
+    c.both.result ≡ is_digit (byte_at now now.loop-k.k) && is_digit (byte_at now (now.loop-k.k + 1))
+tested c = c.both.ensures ∙ ap₂ ◌&&◌ c.before.before.is_digit.ensures c.before.is_digit-in-loop-k.ensures
 
-digits : (c : tie.Else2 invariant-loop decreases-loop)
+digits : (c : tie.Else-not-both invariant-loop decreases-loop)
     → let now = (turn_of c.before).before in
-    (is_digit (byte_at now now.loop.k) ≡ true) × (is_digit (byte_at now (now.loop.k + 1)) ≡ true)
+    (is_digit (byte_at now now.loop-k.k) ≡ true) × (is_digit (byte_at now (now.loop-k.k + 1)) ≡ true)
 digits c =
     let now = (turn_of c.before).before in
-    let first = is_digit (byte_at now now.loop.k) in
-    let second = is_digit (byte_at now (now.loop.k + 1)) in
-    let both = sym (tested c.before) ∙ not-false _ c.if2.false in
+    let first = is_digit (byte_at now now.loop-k.k) in
+    let second = is_digit (byte_at now (now.loop-k.k + 1)) in
+    let both = sym (tested c.before) ∙ not-false _ c.if-not-both.false in
     (and_left first second both, and_right first second both)
 
 -- So many digits have a value that fits.
-small : (c : tie.In-loop invariant-loop decreases-loop) → c.before.loop.size < 100_000_000_000_000_000
-small c = digits_fit _ _ _ _ _ c.before.loop.invariant 17 (omega arith)
+small : (c : tie.In-loop-k invariant-loop decreases-loop) → c.before.loop-k.size < 100_000_000_000_000_000
+small c = digits_fit _ _ _ _ _ c.before.loop-k.invariant 17 (omega arith)
 
-small_last : (c : tie.Then3 invariant-loop decreases-loop) → c.before.before.loop.size < 1_000_000_000_000_000_000
-small_last c = digits_fit _ _ _ _ _ c.before.before.loop.invariant 18 (omega arith)
+small_last : (c : tie.Then-k-end invariant-loop decreases-loop) → c.before.before.loop-k.size < 1_000_000_000_000_000_000
+small_last c = digits_fit _ _ _ _ _ c.before.before.loop-k.invariant 18 (omega arith)
 
 -- The last byte is a digit.
-last_digit : (c : tie.Else4 invariant-loop decreases-loop)
+last_digit : (c : tie.Else-not-is_digit invariant-loop decreases-loop)
     → let at_then = c.before.before.before in
     let now = at_then.before.before in
-    is_digit (byte_at now now.loop.k) ≡ true
-last_digit c = sym c.before.is-digit3.ensures ∙ not-false _ c.if4.false
+    is_digit (byte_at now now.loop-k.k) ≡ true
+last_digit c = sym c.before.is_digit-then-k-end.ensures ∙ not-false _ c.if-not-is_digit.false
 
 -- Too many digits.
-returns : tie.Need-returns invariant-loop decreases-loop
+returns : tie.Need-returns-then-end-start-gt-DIGITS invariant-loop decreases-loop
 returns c =
     let pre = c.before.before.before.requires in
-    c.none.ensures ∙ sym (many_none _ _ _ _ _ pre.0 pre.1 c.before.if1.true)
+    c.none.ensures ∙ sym (many_none _ _ _ _ _ pre.0 pre.1 c.before.if-end-start-gt-DIGITS.true)
 
 -- A byte that is no digit.
-returns_2 : tie.Need-returns-2 invariant-loop decreases-loop
+returns_2 : tie.Need-returns-then-not-both invariant-loop decreases-loop
 returns_2 c =
     let at_both = c.before.before in
     let in_loop = turn_of at_both in
-    let wrong = sym (tested at_both) ∙ not-true _ c.before.if2.true in
-    c.none2.ensures ∙ sym (two_not _ _ _ _ _ in_loop.before.loop.inv in_loop.loop-test.taken _ _ wrong)
+    let wrong = sym (tested at_both) ∙ not-true _ c.before.if-not-both.true in
+    c.none-then-not-both.ensures ∙ sym (two_not _ _ _ _ _ in_loop.before.loop-k.inv in_loop.loop-k-test.taken _ _ wrong)
 
 add_size : tie.Need-overflow-add-size invariant-loop decreases-loop
 add_size c =
@@ -85,20 +85,20 @@ add_size c =
     let second = digit_range _ (digits c.before).1 in
     rw c.pair.ensures (omega arith)
 
-loop_again : tie.Need-loop-preserved invariant-loop decreases-loop
+loop_again : tie.Need-loop-k-preserved invariant-loop decreases-loop
 loop_again c =
     let in_loop = turn_of c.before.before in
     let two = digits c.before in
     rw c.pair.ensures
-    (digits_two _ _ _ _ _ in_loop.before.loop.inv in_loop.loop-test.taken two.0 two.1)
+    (digits_two _ _ _ _ _ in_loop.before.loop-k.inv in_loop.loop-k-test.taken two.0 two.1)
 
 -- The last byte is no digit.
-returns_3 : tie.Need-returns-3 invariant-loop decreases-loop
+returns_3 : tie.Need-returns-then-not-is_digit invariant-loop decreases-loop
 returns_3 c =
     let at_digit = c.before.before in
     let at_then = at_digit.before.before in
-    let wrong = sym at_digit.is-digit3.ensures ∙ not-true _ c.before.if4.true in
-    c.none3.ensures ∙ sym (digits_not _ _ _ _ _ at_then.before.before.loop.invariant _ _ at_then.if3.true wrong)
+    let wrong = sym at_digit.is_digit-then-k-end.ensures ∙ not-true _ c.before.if-not-is_digit.true in
+    c.none-then-not-is_digit.ensures ∙ sym (digits_not _ _ _ _ _ at_then.before.before.loop-k.invariant _ _ at_then.if-k-end.true wrong)
 
 add_size_2 : tie.Need-overflow-add-size-2 invariant-loop decreases-loop
 add_size_2 c =
@@ -107,14 +107,14 @@ add_size_2 c =
     rw c.wide.ensures (omega arith)
 
 -- The value, with a last digit or without.
-returns_4 : tie.Need-returns-4 invariant-loop decreases-loop
+returns_4 : tie.Need-returns invariant-loop decreases-loop
 returns_4 c =
     let joined = c.before in
-    let now = joined.before.before.loop in
+    let now = joined.before.before.loop-k in
     let at_start = begun joined.before.before in
     let args = at_start.args in
     c.counted.ensures
-    ∙ ap₂ (λ (l h : ℤ). finish l h (digits_seen args.mark joined.if3.size))
+    ∙ ap₂ (λ (l h : ℤ). finish l h (digits_seen args.mark joined.if-k-end.size))
     (to_z-of_z at_start.fits.lowest) (to_z-of_z at_start.fits.highest)
     ∙ ⊎_elim
     (λ w.
@@ -122,7 +122,7 @@ returns_4 c =
     let whole = digits_more _ _ _ _ _ now.invariant w.0.taken digit in
     rw (w.5, w.4.ensures) (sym (digits_end _ _ _ _ _ whole args.lowest args.highest (omega arith))))
     (λ w. rw w.1 (sym (digits_end _ _ _ _ _ now.invariant args.lowest args.highest w.0.left)))
-    joined.if3.branch
+    joined.if-k-end.branch
 
 pub digits_after_spec : {M : Type 1} → statement M
 digits_after_spec =

@@ -24,15 +24,15 @@ module _ (n : ℕ) (h : n ≤ 1_000_000_000_000_000_009) where
   negated_fits = subst (λ (t : ℤ). SFits w64 t) (sym negated) (neg_fits n refl)
 
 -- After a minus.
-returns : tie.Need-returns
+returns : tie.Need-returns-then-mark-eq45
 unfolding signed
 returns c =
     let size = c.before.args.size in
-    rw (eq-eqb _ _ c.if1.true) (to_z-of_z (negated_fits size (omega arith)) ∙ negated size (omega arith))
+    rw (eq-eqb _ _ c.if-mark-eq45.true) (to_z-of_z (negated_fits size (omega arith)) ∙ negated size (omega arith))
 
-returns_2 : tie.Need-returns-2
+returns_2 : tie.Need-returns-else-mark-eq45
 unfolding signed
-returns_2 c = rw (ne_eqb _ _ c.if1.false) (to_z_pos w64 {n = c.before.args.size} (omega arith))
+returns_2 c = rw (ne_eqb _ _ c.if-mark-eq45.false) (to_z_pos w64 {n = c.before.args.size} (omega arith))
 
 pub signed_spec : {M : Type 1} → statement M
 signed_spec =

@@ -24,20 +24,20 @@ tested c =
     c.both.ensures ∙ ap₂ ◌&&◌ (bits_le _ _ fits.lowest fits.value) (bits_le _ _ fits.value fits.highest)
 
 -- From the lowest to the highest.
-returns : tie.Need-returns
+returns : tie.Need-returns-then-both
 returns c =
     let at_start = c.before.before in
     let args = at_start.args in
     ap accepted (to_z-of_z at_start.ranges.value)
-    ∙ sym (within_passed args.lowest args.highest args.value (sym (tested c.before) ∙ c.if1.true))
+    ∙ sym (within_passed args.lowest args.highest args.value (sym (tested c.before) ∙ c.if-both.true))
 
-returns_2 : tie.Need-returns-2
+returns_2 : tie.Need-returns
 returns_2 c =
     let at_test = c.before in
     let args = at_test.before.before.args in
     c.none.ensures
     ∙ sym
-    (within_refused args.lowest args.highest args.value (sym (tested at_test.before) ∙ at_test.if1.false))
+    (within_refused args.lowest args.highest args.value (sym (tested at_test.before) ∙ at_test.if-both.false))
 
 pub within_spec : {M : Type 1} → statement M
 within_spec = tie.close (tie.spec (λ c κs. search rules) returns (λ c κs. search rules) returns_2)
