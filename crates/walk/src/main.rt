@@ -1,13 +1,17 @@
 // A walk down a river of four cells: a fixed list of loads, flows, air exchanges and steps, refused ones among them.
 // Prints each call with its number, then for each cell the totals that it holds and those of a book that is kept of
 // the calls and their answers alone.
+#![tactic(auto)]
+
 mod book;
 mod calls;
 mod set;
 mod walk;
 mod write;
 
-fn main() {
-    let walked = calls::all(walk::Walk::start());
-    walked.write();
+use std::io;
+
+fn main(rt: HostRuntime) -> io::Result<()> {
+    let walked = calls::all(&rt, walk::Walk::start())?;
+    walked.write(&rt)
 }
