@@ -1,6 +1,8 @@
 // Makes the calls of the vectors (standard input; reference/src/vectors.rs says how they are written) and compares what
 // they answer with what the reference answered. Prints a table of the calls by kind and number, how many answers were
 // equal, and the first difference.
+#![tactic(auto)]
+
 mod calls;
 mod digest;
 mod frames;

@@ -1,5 +1,7 @@
 // Reads a record from standard input and writes it back; for any other input, its number and a line feed. One byte
 // more than the longest record has is enough to know that an input is none.
+#![tactic(auto)]
+
 use libc::{STDIN_FILENO, STDOUT_FILENO};
 use record::Record;
 use river::River;

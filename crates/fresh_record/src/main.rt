@@ -1,4 +1,6 @@
 // Prints the record of a fresh river of one cell: 35 lines, each value 0.
+#![tactic(auto)]
+
 use libc::STDOUT_FILENO;
 use record::Record;
 use river::River;

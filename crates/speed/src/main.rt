@@ -2,6 +2,8 @@
 // the time of a call. Standard input is a letter for the kind and how many calls, as in `s 1000`. The kinds: step,
 // flow, air, load, rows of a set, write a record, Read a record, probe frame, bank page, and n for turns that make no
 // call.
+#![tactic(auto)]
+
 use libc::{STDIN_FILENO, STDOUT_FILENO};
 
 mod calls;

@@ -1,6 +1,8 @@
 // Compares the rows of the published set with Table 9 of document 000, by whole numbers. Standard input is the table as
 // it is printed: a line for each process, with its number and the columns in the order of the substances, a point for a
 // blank. A printed figure has to agree with the row's entry to half a unit of its last digit, a blank to stand for 0.
+#![tactic(auto)]
+
 use libc::STDIN_FILENO;
 
 mod agreement;

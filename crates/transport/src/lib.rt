@@ -1,4 +1,6 @@
 // What comes into the river, passes along it and leaves it: load, flow and air.
+#![tactic(auto)]
+
 ghost use Rattle.std.specs.Prelude.{◌≡◌};
 ghost use Rattle.transport.specs.Load.{load_answer};
 ghost use Rattle.transport.specs.Flow.{flow_answer};

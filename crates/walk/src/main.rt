@@ -1,6 +1,8 @@
 // A walk down a river of four cells: a fixed list of loads, flows, air exchanges and steps, refused ones among them.
 // Prints each call with its number, then for each cell the totals that it holds and those of a book that is kept of
 // the calls and their answers alone.
+#![tactic(auto)]
+
 mod book;
 mod calls;
 mod set;
