@@ -51,7 +51,7 @@ added_by_requires c κs =
 next : (c : tie.After-added_by-total invariant-loop decreases-loop) → let at_loop = c.before.before in
     let a = at_loop.before.args in
     let total = a.start +ℤ sum (at_loop.loop-p.p + 1) (added_from a.whole.now a.at a.entries.now a.s) in
-    (to_z w64 at_loop.loop-p.total +ℤ kept c.added_by-total.result ≡ total) × SFits w64 total
+    (to_z w64 at_loop.loop-p.total-bits +ℤ kept c.added_by-total.result ≡ total) × SFits w64 total
 next c =
     let at_loop = c.before.before in
     let start = at_loop.before in

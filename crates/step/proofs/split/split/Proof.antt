@@ -35,15 +35,15 @@ fit c =
 
 -- The whole batches are far below 2^63.
 small : (c : tie.After-whole_of invariant-loop decreases-loop) → c.whole_of.result ≤ most_extent
-small c = rw c.whole_of.ensures (omega (arith, fit c.before.before.before))
+small c = rw c.whole_of.ensures (omega (arith, fit c.before.before.before.before.before))
 
 loop_again : tie.Need-loop-p-preserved invariant-loop decreases-loop
 loop_again c =
     let entered : tie.In-loop-p invariant-loop decreases-loop = search in
     let at_loop = entered.before in
-    let inv = at_loop.loop-p.inv in
+    let inv = at_loop.loop-p.invariant in
     let p = at_loop.loop-p.p in
-    let whole = to_z_pos w64 (omega (arith, small c.before)) ∙ ap pos c.before.whole_of.ensures in
+    let whole = to_z_pos w64 (omega (arith, small c.before.before)) ∙ ap pos c.before.whole_of.ensures in
     (omega arith, run_more _ _ p _ _ _ inv.1 whole, run_more _ _ p _ _ _ inv.2 c.rest_of.ensures)
 
 returns : tie.Need-returns invariant-loop decreases-loop
@@ -60,10 +60,10 @@ split_spec =
     decreases-loop
     (λ c. (omega arith, run_none _ _ _, run_none _ _ _))
     (λ c. omega arith) (λ c. omega arith) (λ c. omega arith) (λ c. omega arith) (λ c. omega arith)
-    (λ c κs. fit c.before.before)
+    (λ c κs. fit c.before.before.before.before)
     (λ c. omega (arith, small c))
     (λ c. omega arith) (λ c. omega arith) (λ c. omega arith)
-    (λ c κs. fit c.before.before.before)
+    (λ c κs. fit c.before.before.before.before.before)
     (λ c. omega arith) (λ c. omega arith) (λ c. omega arith) (λ c. omega arith) (λ c. omega arith)
     loop_again
     returns)
