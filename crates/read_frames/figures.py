@@ -31,7 +31,7 @@ def answer(readings, kind, oxygen, saturation):
 
 
 BITS = re.compile(r"let bits = \[(.*)\];")
-SHOW = re.compile(r"show\(bits, (mass|percent|Oxygen::Missing)(?:\((\w+)\))?, (\d+)\);")
+SHOW = re.compile(r"show\(rt, bits, (mass|percent|Oxygen::Missing)(?:\((\w+)\))?, (\d+)\)")
 for line in pathlib.Path(__file__).parent.joinpath("src/table.rt").read_text().splitlines():
     if found := BITS.search(line):
         readings = [int(bits, 16) for bits in found[1].split(", ")]

@@ -2,15 +2,16 @@
 // more than the longest record has is enough to know that an input is none.
 #![tactic(auto)]
 
-use libc::{STDIN_FILENO, STDOUT_FILENO};
 use record::Record;
 use river::River;
+use std::io;
+use streams::read_full;
 
 const LONGEST: usize = River::CELLS_MOST * Record::CELL_BYTES;
 
-fn main() {
+fn main(rt: HostRuntime) -> io::Result<()> {
     let mut text = [0; LONGEST + 1];
-    let n = io::read_full(STDIN_FILENO, &mut text);
+    let n = read_full(&mut rt.reader(), &mut text)?;
     let read = record_reading::read_record(&text[..n]);
     let mut output = [0; LONGEST];
     let mut work = [0; LONGEST];
@@ -20,11 +21,11 @@ fn main() {
         if record::write_record(river, &mut output, &mut work) == 0 {
             let bytes = river.cells as usize * Record::CELL_BYTES;
             if bytes <= LONGEST {
-                io::write_all(STDOUT_FILENO, &output[0..bytes]);
+                rt.write_all(&output[0..bytes])?;
             }
         }
     } else {
-        io::print_decimal(STDOUT_FILENO, number as u64);
-        io::write_all(STDOUT_FILENO, b"\n");
+        rt.println(number)?;
     }
+    Ok(())
 }

@@ -1,14 +1,14 @@
 // Prints the record of a fresh river of one cell: 35 lines, each value 0.
 #![tactic(auto)]
 
-use libc::STDOUT_FILENO;
 use record::Record;
 use river::River;
+use std::io;
 
-fn main() {
+fn main(rt: HostRuntime) -> io::Result<()> {
     let fresh = River::fresh(1);
     let mut output = [0; Record::CELL_BYTES];
     let mut work = [0; Record::CELL_BYTES];
     record::write_record(fresh.river, &mut output, &mut work);
-    io::write_all(STDOUT_FILENO, &output);
+    rt.write_all(&output)
 }

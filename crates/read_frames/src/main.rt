@@ -5,10 +5,12 @@
 mod table;
 mod write;
 
-fn main() {
-    table::masses();
-    table::percentages();
-    table::any_frames();
-    table::edges();
-    table::refused_frames();
+use std::io;
+
+fn main(rt: HostRuntime) -> io::Result<()> {
+    table::masses(&rt)?;
+    table::percentages(&rt)?;
+    table::any_frames(&rt)?;
+    table::edges(&rt)?;
+    table::refused_frames(&rt)
 }

@@ -1,32 +1,30 @@
 // What is written of a frame's amounts.
-use libc::STDOUT_FILENO;
 use probe::{Amounts, OxygenAmount};
+use std::io::Result;
 
 // Amounts of frames are not negative.
-fn write_amount(grains: i64) {
-    io::write_all(STDOUT_FILENO, b" ");
+fn write_amount(rt: &impl Print, grains: i64) -> Result<()> {
+    rt.write_all(b" ")?;
     if grains < 0 {
-        return;
+        return Ok(());
     }
-    io::print_decimal(STDOUT_FILENO, grains as u64);
+    rt.print(grains as u64)
 }
 
-fn write_oxygen(oxygen: OxygenAmount) {
+fn write_oxygen(rt: &impl Print, oxygen: OxygenAmount) -> Result<()> {
     match oxygen {
-        OxygenAmount::Grains(grains) => write_amount(grains),
-        OxygenAmount::Missing => {
-            io::write_all(STDOUT_FILENO, b" -");
-        }
+        OxygenAmount::Grains(grains) => write_amount(rt, grains),
+        OxygenAmount::Missing => rt.write_all(b" -"),
     }
 }
 
-pub(crate) fn write_amounts(amounts: Amounts) {
-    io::print_decimal(STDOUT_FILENO, amounts.number as u64);
-    write_amount(amounts.ammonium);
-    write_amount(amounts.nitrite);
-    write_amount(amounts.nitrate);
-    write_amount(amounts.phosphate);
+pub(crate) fn write_amounts(rt: &impl Print, amounts: Amounts) -> Result<()> {
+    rt.print(amounts.number)?;
+    write_amount(rt, amounts.ammonium)?;
+    write_amount(rt, amounts.nitrite)?;
+    write_amount(rt, amounts.nitrate)?;
+    write_amount(rt, amounts.phosphate)?;
     let oxygen = amounts.oxygen;
-    write_oxygen(oxygen);
-    io::write_all(STDOUT_FILENO, b"\n");
+    write_oxygen(rt, oxygen)?;
+    rt.write_all(b"\n")
 }

@@ -3,15 +3,19 @@
 // blank. A printed figure has to agree with the row's entry to half a unit of its last digit, a blank to stand for 0.
 #![tactic(auto)]
 
-use libc::STDIN_FILENO;
-
 mod agreement;
 mod set;
 mod table;
 
-fn main() {
-    let mut text = io::buffer();
-    let n = io::read_full(STDIN_FILENO, &mut text);
+use std::io;
+use streams::read_full;
+
+// The most bytes of the table that are read.
+const MOST: usize = 4096;
+
+fn main(rt: HostRuntime) -> io::Result<()> {
+    let mut text = [0; MOST];
+    let n = read_full(&mut rt.reader(), &mut text)?;
     let rows = set::published_rows();
-    table::compare(&text[..n], &rows);
+    table::compare(&rt, &text[..n], &rows)
 }

@@ -1,6 +1,6 @@
 // The text of the table, read byte by byte, and what is counted and written of it.
 use crate::agreement::{Figure, is_right};
-use libc::STDOUT_FILENO;
+use std::io::Result;
 use stoichiometry::ENTRIES;
 
 // One more where `holds`. No count of a table reaches a thousand.
@@ -40,31 +40,31 @@ impl Tally {
         }
     }
 
-    fn write(self) {
-        io::print_decimal(STDOUT_FILENO, self.agreeing as u64);
-        io::write_all(STDOUT_FILENO, b" of ");
-        io::print_decimal(STDOUT_FILENO, self.figures as u64);
-        io::write_all(STDOUT_FILENO, b" printed entries agree, ");
-        io::print_decimal(STDOUT_FILENO, self.zeros as u64);
-        io::write_all(STDOUT_FILENO, b" of ");
-        io::print_decimal(STDOUT_FILENO, self.blanks as u64);
-        io::write_all(STDOUT_FILENO, b" blanks are zero\n");
+    fn write(self, rt: &impl Print) -> Result<()> {
+        rt.print(self.agreeing)?;
+        rt.write_all(b" of ")?;
+        rt.print(self.figures)?;
+        rt.write_all(b" printed entries agree, ")?;
+        rt.print(self.zeros)?;
+        rt.write_all(b" of ")?;
+        rt.print(self.blanks)?;
+        rt.write_all(b" blanks are zero\n")
     }
 }
 
-fn write_row(process: usize, line: Tally) {
-    io::write_all(STDOUT_FILENO, b"row ");
+fn write_row(rt: &impl Print, process: usize, line: Tally) -> Result<()> {
+    rt.write_all(b"row ")?;
     if process < 10 {
-        io::write_all(STDOUT_FILENO, b" ");
+        rt.write_all(b" ")?;
     }
-    io::print_decimal(STDOUT_FILENO, process as u64);
-    io::write_all(STDOUT_FILENO, b": ");
-    line.write();
+    rt.print(process)?;
+    rt.write_all(b": ")?;
+    line.write(rt)
 }
 
-fn write_sums(all: Tally) {
-    io::write_all(STDOUT_FILENO, b"all rows: ");
-    all.write();
+fn write_sums(rt: &impl Print, all: Tally) -> Result<()> {
+    rt.write_all(b"all rows: ")?;
+    all.write(rt)
 }
 
 // From nine digits on a number stays as it is, out of reach of any that agrees.
@@ -161,38 +161,38 @@ impl Reading {
         next
     }
 
-    fn line_ended(self) -> Reading {
+    fn line_ended(self, rt: &impl Print) -> Result<Reading> {
         if self.process > 0 {
-            write_row(self.process, self.line);
+            write_row(rt, self.process, self.line)?;
         }
         let mut next = self;
         next.process = 0;
         next.column = 0;
         next.line = Tally::new();
-        next
+        Ok(next)
     }
 
-    fn after(self, byte: u8, rows: &[i64; ENTRIES]) -> Reading {
+    fn after(self, rt: &impl Print, byte: u8, rows: &[i64; ENTRIES]) -> Result<Reading> {
         if byte == b'\n' {
-            return self.cell_ended(rows).line_ended();
+            return self.cell_ended(rows).line_ended(rt);
         }
         if byte == b' ' {
-            return self.cell_ended(rows);
+            return Ok(self.cell_ended(rows));
         }
         let cell = self.cell;
         let mut next = self;
         next.cell = cell.with(byte);
-        next
+        Ok(next)
     }
 }
 
 // Writes a line for each row of the table and one for all of them.
-pub(crate) fn compare(text: &[u8], rows: &[i64; ENTRIES]) {
+pub(crate) fn compare(rt: &impl Print, text: &[u8], rows: &[i64; ENTRIES]) -> Result<()> {
     let mut reading = Reading::new();
     let mut i = 0;
     while i < text.len() {
-        reading = reading.after(text[i], rows);
+        reading = reading.after(rt, text[i], rows)?;
         i += 1;
     }
-    write_sums(reading.all);
+    write_sums(rt, reading.all)
 }

@@ -9,7 +9,9 @@ mod set;
 mod walk;
 mod write;
 
-fn main() {
-    let walked = calls::all(walk::Walk::start());
-    walked.write();
+use std::io;
+
+fn main(rt: HostRuntime) -> io::Result<()> {
+    let walked = calls::all(&rt, walk::Walk::start())?;
+    walked.write(&rt)
 }

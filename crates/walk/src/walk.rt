@@ -4,8 +4,8 @@ use crate::calls::O2;
 use crate::set::published_set;
 use crate::write::{write_number, write_totals};
 use kinetics::{Conditions, Temperatures};
-use libc::STDOUT_FILENO;
 use river::River;
+use std::io::Result;
 use step::step_river;
 use stoichiometry::{Set, refusal};
 use totals::{Totals, totals_of};
@@ -29,54 +29,73 @@ impl Walk {
         }
     }
 
-    pub(crate) fn load(self, cell: u32, substance: u32, number: i64) -> Walk {
+    pub(crate) fn load(
+        self,
+        rt: &impl Print,
+        cell: u32,
+        substance: u32,
+        number: i64,
+    ) -> Result<Walk> {
         let set = self.set;
         let before = self.river;
         let book = self.book;
         let answer = load_river(before, cell, substance, number);
-        io::write_all(STDOUT_FILENO, b"load ");
-        write_number(answer.number);
+        rt.write_all(b"load ")?;
+        write_number(rt, answer.number)?;
         let river = answer.river;
         if answer.number != refusal::NONE {
-            return Walk { set, river, book };
+            return Ok(Walk { set, river, book });
         }
         let book = with_number(book, set, cell, substance, number);
-        Walk { set, river, book }
+        Ok(Walk { set, river, book })
     }
 
-    pub(crate) fn flow(self, part: u32) -> Walk {
+    pub(crate) fn flow(self, rt: &impl Print, part: u32) -> Result<Walk> {
         let set = self.set;
         let before = self.river;
         let book = self.book;
         let answer = flow_river(before, part);
-        io::write_all(STDOUT_FILENO, b"flow ");
-        write_number(answer.number);
+        rt.write_all(b"flow ")?;
+        write_number(rt, answer.number)?;
         let river = answer.river;
         if answer.number != refusal::NONE {
-            return Walk { set, river, book };
+            return Ok(Walk { set, river, book });
         }
         let left = answer.left;
         let book = with_flow(book, set, left);
-        Walk { set, river, book }
+        Ok(Walk { set, river, book })
     }
 
-    pub(crate) fn air(self, cell: u32, constant: u32, seconds: u32, saturation: u32) -> Walk {
+    pub(crate) fn air(
+        self,
+        rt: &impl Print,
+        cell: u32,
+        constant: u32,
+        seconds: u32,
+        saturation: u32,
+    ) -> Result<Walk> {
         let set = self.set;
         let before = self.river;
         let book = self.book;
         let answer = air_river(before, cell, constant, seconds, saturation);
-        io::write_all(STDOUT_FILENO, b"air ");
-        write_number(answer.number);
+        rt.write_all(b"air ")?;
+        write_number(rt, answer.number)?;
         let river = answer.river;
         if answer.number != refusal::NONE {
-            return Walk { set, river, book };
+            return Ok(Walk { set, river, book });
         }
         let book = with_number(book, set, cell, O2, answer.amount);
-        Walk { set, river, book }
+        Ok(Walk { set, river, book })
     }
 
     // A step at a temperature at which every temperature factor is `warmth`, millionths.
-    pub(crate) fn step(self, seconds: u32, light: u32, warmth: u32) -> Walk {
+    pub(crate) fn step(
+        self,
+        rt: &impl Print,
+        seconds: u32,
+        light: u32,
+        warmth: u32,
+    ) -> Result<Walk> {
         let set = self.set;
         let before = self.river;
         let book = self.book;
@@ -93,27 +112,27 @@ impl Walk {
             temperatures,
         };
         let answer = step_river(set, before, given);
-        io::write_all(STDOUT_FILENO, b"step ");
-        write_number(answer.number);
+        rt.write_all(b"step ")?;
+        write_number(rt, answer.number)?;
         let river = answer.river;
-        Walk { set, river, book }
+        Ok(Walk { set, river, book })
     }
 
-    fn write_cell(self, cell: u32) {
+    fn write_cell(self, rt: &impl Print, cell: u32) -> Result<()> {
         let set = self.set;
         let river = self.river;
         let book = self.book;
-        io::write_all(STDOUT_FILENO, b"holds ");
-        write_totals(cell, totals_of(set, river, cell));
-        io::write_all(STDOUT_FILENO, b"book  ");
-        write_totals(cell, booked(book, cell));
+        rt.write_all(b"holds ")?;
+        write_totals(rt, cell, totals_of(set, river, cell))?;
+        rt.write_all(b"book  ")?;
+        write_totals(rt, cell, booked(book, cell))
     }
 
     // C, H, O, N, P and charge of each cell: held, and booked.
-    pub(crate) fn write(self) {
-        self.write_cell(1);
-        self.write_cell(2);
-        self.write_cell(3);
-        self.write_cell(4);
+    pub(crate) fn write(self, rt: &impl Print) -> Result<()> {
+        self.write_cell(rt, 1)?;
+        self.write_cell(rt, 2)?;
+        self.write_cell(rt, 3)?;
+        self.write_cell(rt, 4)
     }
 }

@@ -1,29 +1,28 @@
 // What is written of an answer, and of six totals.
-use libc::STDOUT_FILENO;
 use numeric::magnitude;
+use std::io::Result;
 use totals::Totals;
 
-pub(crate) fn write_number(number: u32) {
-    io::print_decimal(STDOUT_FILENO, number as u64);
-    io::write_all(STDOUT_FILENO, b"\n");
+pub(crate) fn write_number(rt: &impl Print, number: u32) -> Result<()> {
+    rt.println(number)
 }
 
-fn write_signed(x: i64) {
-    io::write_all(STDOUT_FILENO, b" ");
+fn write_signed(rt: &impl Print, x: i64) -> Result<()> {
+    rt.write_all(b" ")?;
     if x < 0 {
-        io::write_all(STDOUT_FILENO, b"-");
+        rt.write_all(b"-")?;
     }
-    io::print_decimal(STDOUT_FILENO, magnitude(x));
+    rt.print(magnitude(x))
 }
 
 // A cell with its C, H, O, N, P and charge.
-pub(crate) fn write_totals(cell: u32, t: Totals) {
-    io::print_decimal(STDOUT_FILENO, cell as u64);
-    write_signed(t.carbon);
-    write_signed(t.hydrogen);
-    write_signed(t.oxygen);
-    write_signed(t.nitrogen);
-    write_signed(t.phosphorus);
-    write_signed(t.charge);
-    io::write_all(STDOUT_FILENO, b"\n");
+pub(crate) fn write_totals(rt: &impl Print, cell: u32, t: Totals) -> Result<()> {
+    rt.print(cell)?;
+    write_signed(rt, t.carbon)?;
+    write_signed(rt, t.hydrogen)?;
+    write_signed(rt, t.oxygen)?;
+    write_signed(rt, t.nitrogen)?;
+    write_signed(rt, t.phosphorus)?;
+    write_signed(rt, t.charge)?;
+    rt.write_all(b"\n")
 }

@@ -2,10 +2,10 @@
 use crate::constants::{half_saturations, rates};
 use crate::levels::{write_letters, write_levels};
 use kinetics::{Conditions, Temperatures};
-use libc::STDOUT_FILENO;
 use probe::{Amounts, Frame, Oxygen, OxygenAmount};
 use record::Record;
 use river::River;
+use std::io::Result;
 use stoichiometry::{Set, place};
 
 const CELLS: u32 = 2;
@@ -49,10 +49,9 @@ const GRAM: i64 = 1000000;
 
 const MOLE: i64 = 312480000000000;
 
-fn write_call(name: &[u8], number: u32) {
-    io::write_all(STDOUT_FILENO, name);
-    io::print_decimal(STDOUT_FILENO, number as u64);
-    io::write_all(STDOUT_FILENO, b"\n");
+fn write_call(rt: &impl Print, name: &[u8], number: u32) -> Result<()> {
+    rt.write_all(name)?;
+    rt.println(number)
 }
 
 // What the probe reads: NH4-N, NO2-N, NO3-N and PO4-P in g/m³, oxygen in per cent of saturation.
@@ -80,49 +79,49 @@ pub(crate) struct Day {
 }
 
 impl Day {
-    pub(crate) fn start() -> Day {
+    pub(crate) fn start(rt: &impl Print) -> Result<Day> {
         let fresh = River::fresh(CELLS);
         let river = fresh.river;
         let published = Set::published(rates(), half_saturations());
-        write_call(b"set ", published.number);
+        write_call(rt, b"set ", published.number)?;
         let set = published.set;
-        Day { set, river }
+        Ok(Day { set, river })
     }
 
-    fn load(self, substance: u32, number: i64) -> Day {
+    fn load(self, rt: &impl Print, substance: u32, number: i64) -> Result<Day> {
         let set = self.set;
         let before = self.river;
         let answer = transport::load_river(before, 1, substance, number);
-        write_call(b"load ", answer.number);
+        write_call(rt, b"load ", answer.number)?;
         let river = answer.river;
-        Day { set, river }
+        Ok(Day { set, river })
     }
 
-    fn load_frame(self, amounts: Amounts) -> Day {
-        write_call(b"frame ", amounts.number);
+    fn load_frame(self, rt: &impl Print, amounts: Amounts) -> Result<Day> {
+        write_call(rt, b"frame ", amounts.number)?;
         let oxygen = amounts.oxygen;
-        self.load(NH4, amounts.ammonium)
-            .load(NO2, amounts.nitrite)
-            .load(NO3, amounts.nitrate)
-            .load(HPO4, amounts.phosphate)
-            .load(O2, grains(oxygen))
+        self.load(rt, NH4, amounts.ammonium)?
+            .load(rt, NO2, amounts.nitrite)?
+            .load(rt, NO3, amounts.nitrate)?
+            .load(rt, HPO4, amounts.phosphate)?
+            .load(rt, O2, grains(oxygen))
     }
 
     // The probe's amounts, 10 g of SS, 5 g of XS, 2 mol of HCO3 and the organisms.
-    pub(crate) fn loaded(self) -> Day {
-        self.load_frame(probe::amounts_of(frame(), SATURATION))
-            .load(SS, 10 * GRAM)
-            .load(XS, 5 * GRAM)
-            .load(HCO3, 2 * MOLE)
-            .load(XH, 3 * GRAM)
-            .load(XN1, GRAM)
-            .load(XN2, GRAM)
-            .load(XALG, 2 * GRAM)
+    pub(crate) fn loaded(self, rt: &impl Print) -> Result<Day> {
+        self.load_frame(rt, probe::amounts_of(frame(), SATURATION))?
+            .load(rt, SS, 10 * GRAM)?
+            .load(rt, XS, 5 * GRAM)?
+            .load(rt, HCO3, 2 * MOLE)?
+            .load(rt, XH, 3 * GRAM)?
+            .load(rt, XN1, GRAM)?
+            .load(rt, XN2, GRAM)?
+            .load(rt, XALG, 2 * GRAM)
     }
 
     // Ten minutes at 20 °C, for which the rate constants hold: all factors are 10^6 but light's. That is a half, I /
     // (I + KI) of document 000, appendix 2, where the light I is 500 W/m², as KI is in Table 8.
-    fn step(self) -> Day {
+    fn step(self, rt: &impl Print) -> Result<Day> {
         let set = self.set;
         let before = self.river;
         let temperatures = Temperatures {
@@ -138,41 +137,41 @@ impl Day {
             temperatures,
         };
         let answer = step::step_river(set, before, given);
-        write_call(b"step ", answer.number);
+        write_call(rt, b"step ", answer.number)?;
         let river = answer.river;
-        Day { set, river }
+        Ok(Day { set, river })
     }
 
     // A twentieth of each cell passes down.
-    fn flow(self) -> Day {
+    fn flow(self, rt: &impl Print) -> Result<Day> {
         let set = self.set;
         let before = self.river;
         let answer = transport::flow_river(before, 500);
-        write_call(b"flow ", answer.number);
+        write_call(rt, b"flow ", answer.number)?;
         let river = answer.river;
-        Day { set, river }
+        Ok(Day { set, river })
     }
 
-    fn air(self, cell: u32) -> Day {
+    fn air(self, rt: &impl Print, cell: u32) -> Result<Day> {
         let set = self.set;
         let before = self.river;
         let answer = transport::air_river(before, cell, AIR_CONSTANT, 600, SATURATION);
-        write_call(b"air ", answer.number);
+        write_call(rt, b"air ", answer.number)?;
         let river = answer.river;
-        Day { set, river }
+        Ok(Day { set, river })
     }
 
-    fn ten_minutes(self) -> Day {
-        self.step().flow().air(1).air(2)
+    fn ten_minutes(self, rt: &impl Print) -> Result<Day> {
+        self.step(rt)?.flow(rt)?.air(rt, 1)?.air(rt, 2)
     }
 
-    pub(crate) fn hour(self) -> Day {
-        self.ten_minutes()
-            .ten_minutes()
-            .ten_minutes()
-            .ten_minutes()
-            .ten_minutes()
-            .ten_minutes()
+    pub(crate) fn hour(self, rt: &impl Print) -> Result<Day> {
+        self.ten_minutes(rt)?
+            .ten_minutes(rt)?
+            .ten_minutes(rt)?
+            .ten_minutes(rt)?
+            .ten_minutes(rt)?
+            .ten_minutes(rt)
     }
 
     fn letter(self, cell: u32) -> u8 {
@@ -181,16 +180,14 @@ impl Day {
     }
 
     // The levels and the letter of each cell, and the record.
-    pub(crate) fn write(self) {
+    pub(crate) fn write(self, rt: &impl Print) -> Result<()> {
         let river = self.river;
-        write_levels(&river.amounts);
-        write_letters(self.letter(1), self.letter(2));
+        write_levels(rt, &river.amounts)?;
+        write_letters(rt, self.letter(1), self.letter(2))?;
         let mut output = [0; BYTES];
         let mut work = [0; BYTES];
-        write_call(
-            b"record ",
-            record::write_record(river, &mut output, &mut work),
-        );
-        io::write_all(STDOUT_FILENO, &output);
+        let number = record::write_record(river, &mut output, &mut work);
+        write_call(rt, b"record ", number)?;
+        rt.write_all(&output)
     }
 }

@@ -7,6 +7,8 @@ mod constants;
 mod day;
 mod levels;
 
-fn main() {
-    day::Day::start().loaded().hour().write();
+use std::io;
+
+fn main(rt: HostRuntime) -> io::Result<()> {
+    day::Day::start(&rt)?.loaded(&rt)?.hour(&rt)?.write(&rt)
 }
