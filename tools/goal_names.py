@@ -22,7 +22,7 @@ FIELDS = {"args", "ranges", "new", "old", "now", "initial", "fn", "auto", "resul
 
 
 def plain(word):
-    return word.replace("_", "-").lower()
+    return word.replace("_", "-").replace("overflow-", "").replace("nonzero-", "")
 
 
 def listed(crate):
@@ -66,6 +66,8 @@ def turned(text, of, path):
     locals_of = {it for _, them in of["loops"] for it in them} | {it for them in of["params"].values() for it in them}
 
     def stepped(m):
+        if text[text.rfind("\n", 0, m.start()) + 1 :].startswith("use "):
+            return m.group(0)
         under = re.search(r"\.(%s)$" % WORD, text[: m.start()])
         word = m.group(1)
         if under and (under.group(1) in FIELDS or under.group(1).startswith("loop")):
@@ -80,7 +82,7 @@ def turned(text, of, path):
         if row[3] and row[3] in MUTABLE:
             for k, name in enumerate(MUTABLE[row[3]]):
                 text = re.sub(r"(\.%s\.(?:new|auto))\.%d(?!\d)" % (re.escape(row[2][1]), k), r"\1." + name, text)
-    text = text.replace(".type-inv", ".type_inv")
+    text = text.replace(".type-inv", ".type_inv").replace(".well-formed", ".well_formed").replace(".Runs-Fit", ".runs_fit")
     return re.sub(r"\.pre\b", ".requires", text)
 
 

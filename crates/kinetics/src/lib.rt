@@ -1,5 +1,7 @@
 // How fast the processes run: levels, factors, products and extents of one cell; the conditions that a step is given,
 // and their check.
+#![tactic(auto)]
+
 ghost use Rattle.std.specs.Prelude.{◌≡◌};
 ghost use Rattle.kinetics.specs.Conditions.{temperatures_fit, conditions_wrong};
 

@@ -1,5 +1,7 @@
 // Whole numbers: definitions (specs/) and laws (proofs/) that the crates above share, the conjunction of two tests, a
 // number from low to high, and the size of a number.
+#![tactic(auto)]
+
 ghost use Rattle.std.specs.Prelude.{◌≡◌, ◌&&◌, nat_abs};
 ghost use Rattle.numeric.specs.Check.{in_range};
 

@@ -1,4 +1,6 @@
 // The bank page of a river: what a crew reads beside the water, a row for each cell, written into lent bytes.
+#![tactic(auto)]
+
 ghost use Rattle.std.specs.Prelude.{◌≡◌, length};
 ghost use Rattle.page.specs.Writing.{page_number, page_after};
 

@@ -1,4 +1,6 @@
 // The probe frame: readings of nitrogen, phosphorus and oxygen become amounts in grains, or are refused.
+#![tactic(auto)]
+
 ghost use Rattle.std.specs.Prelude.{◌≡◌};
 ghost use Rattle.probe.specs.Frames.{frame_answer};
 

@@ -1,4 +1,6 @@
 // The record of a river, written into lent bytes.
+#![tactic(auto)]
+
 ghost use Rattle.std.specs.Prelude.{◌≡◌, length};
 ghost use Rattle.record.specs.Writing.{write_number, output_after, work_after};
 

@@ -1,4 +1,6 @@
 // The record of a river, read back and handed out by cells. A text is a record or it is refused.
+#![tactic(auto)]
+
 ghost use Rattle.std.specs.Prelude.{◌≡◌};
 ghost use Rattle.record_reading.specs.Reading.{read_answer, cell_number, cell_lines};
 

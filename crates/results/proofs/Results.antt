@@ -77,7 +77,7 @@ published-accepted = Published.published-accepted
 pub published_answer_lem : (k : RateConstants) (h : HalfSaturations)
     → (published_answer k h ≡ record { number = 2; set = zero_set })
     ⊎ (((published_answer k h).number ≡ 0) × Accepted (published_answer k h).set)
-published_answer_lem = Published.published_answer
+published_answer_lem = Published.published_answer_lem
 
 -- A text is read as a river exactly when it is, byte for byte, the record of that river, which is in its bounds.
 pub record-read : (t : List ℕ) (r : River) → (read_answer t ≡ record { number = 0; river = r }) ↔ IsRecordOf t r

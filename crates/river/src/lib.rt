@@ -1,4 +1,6 @@
 // The river: a train of 1 to 8 cells, by value; a fresh one, check 4, and the letter of a cell.
+#![tactic(auto)]
+
 ghost use Rattle.std.specs.Prelude.{◌≡◌};
 ghost use Rattle.river.specs.Rivers.{amount_fits, amounts_fit, river_fits, zero_river, fresh_answer};
 ghost use Rattle.river.specs.Cells.{letter_by, letter_answer};

@@ -1,4 +1,6 @@
 // One step of all cells.
+#![tactic(auto)]
+
 ghost use Rattle.std.specs.Prelude.{◌≡◌};
 ghost use Rattle.step.specs.Steps.{step_answer};
 

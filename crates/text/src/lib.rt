@@ -1,5 +1,7 @@
 // Numbers written right-justified in columns, and bytes copied; for any width and any count. Every call answers for
 // every input; a write that does not fit changes nothing. What each call means: specs/.
+#![tactic(auto)]
+
 ghost use Rattle.std.specs.Prelude.{◌≡◌};
 ghost use Rattle.text.specs.Writes.{put_within, copied};
 ghost use Rattle.text.specs.Decimals.{plain, decimal};

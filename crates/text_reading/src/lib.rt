@@ -1,4 +1,6 @@
 // Decimals read strictly from columns, for any width. The call answers for every text. What it means: specs/.
+#![tactic(auto)]
+
 ghost use Rattle.std.specs.Prelude.{◌≡◌};
 ghost use Rattle.text_reading.specs.Reading.{parse};
 

@@ -1,4 +1,6 @@
 // The six totals of one cell: C, H, O, N, P and charge, under a set.
+#![tactic(auto)]
+
 ghost use Rattle.std.specs.Prelude.{◌≡◌};
 ghost use Rattle.totals.specs.Totals.{totals_answer};
 

@@ -24,7 +24,7 @@ use Rattle.stoichiometry.specs.Levels.{level_of}
 use Rattle.river.specs.declared.River.{River}
 use Rattle.river.specs.Rivers.{lowest_at, highest_at, amount_fits, river_wrong, cell_exists}
 use Rattle.river.proofs.Bounds.{fits-level}
-use Rattle.river.proofs.Rivers.{AmountKnown, amount_known}
+use Rattle.river.proofs.Rivers.{amount_known}
 use Rattle.transport.specs.Air.{exchanged, gain, aired_amount, air_figure_wrong, air_number}
 
 -- An amount of O2 in its bounds is a number of grains up to 10^16, and such a number is in them.

@@ -9,7 +9,7 @@ use native.Mathlib.Omega.{arith}
 use native.Mathlib.Decide.{dec_lt}
 use lib.ListN.{length, get_or}
 use lib.Seq.{ext_get_or}
-use lib.IntN.{ℤ, pos, ◌+ℤ◌, ◌-ℤ◌, +ℤ_idr}
+use lib.IntN.{ℤ, pos, ◌+ℤ◌, +ℤ_idr}
 use Rattle.numeric.proofs.Bounds.{abs_sub}
 use Rattle.numeric.proofs.TableLaws.{tab-length}
 use Rattle.numeric.proofs.Filling.{run_length, run_at, run-other}

@@ -1,4 +1,6 @@
 // What comes into the river, passes along it and leaves it: load, flow and air.
+#![tactic(auto)]
+
 ghost use Rattle.std.specs.Prelude.{◌≡◌};
 ghost use Rattle.transport.specs.Load.{load_answer};
 ghost use Rattle.transport.specs.Flow.{flow_answer};
@@ -76,7 +78,7 @@ pub fn load_river(river: River, cell: u32, substance: u32, added: i64) -> Change
 }
 
 // A flow of a part. Refuses with 4 (a wrong river) or 6 (a part above 10,000), in this order. There is no test for 8:
-// the amounts after are always in their bounds (proofs/FlowLaws.antt, flow-never-eight).
+// the amounts after are always in their bounds (proofs/FlowLaws.antt, flow_never_eight).
 pub fn flow_river(river: River, part: u32) -> Flowed
     ensures answer { result ≡ flow_answer river part }
 {
@@ -103,7 +105,7 @@ pub fn flow_river(river: River, part: u32) -> Flowed
 
 // Exchange of O2 between a cell, counted from 1, and the air. Answers the river with the cell's O2 changed, and the
 // gain. Refuses with 4, 5 or 6, in this order. That the O2 after is in its bounds is not tested: it always is, by the
-// law air-never-eight.
+// law air_never_eight.
 pub fn air_river(river: River, cell: u32, constant: u32, seconds: u32, saturation: u32) -> Aired
     ensures answer { result ≡ air_answer river cell constant seconds saturation }
 {

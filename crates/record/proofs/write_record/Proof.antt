@@ -13,51 +13,51 @@ use Rattle.record.proofs.write_record.Statement.{statement}
 use Rattle.record.proofs.write_record.Tie as tie
 
 -- The start, from the test of the river.
-abbrev begun : tie.After-river-fits → tie.Start
-begun c = let lent = c.before.before.before in lent.before.before.before
+abbrev begun : tie.After-river_fits → tie.Start
+begun c = let lent = c.before.before.before in lent.before.before
 
-wrong : (c : tie.After-river-fits) → river_wrong (begun c).args.t1 ≡ not c.river_fits.result
-wrong c = wrong_tested (begun c).args.t1 _ c.river_fits.ensures
+wrong : (c : tie.After-river_fits) → river_wrong (begun c).args.river ≡ not c.river_fits.result
+wrong c = wrong_tested (begun c).args.river _ c.river_fits.ensures
 
 -- Check 4 does not hold.
-right : (c : tie.Else1) → river_wrong (begun c.before).args.t1 ≡ false
-right c = wrong c.before ∙ c.if1.false
+right : (c : tie.Else-not-river_fits) → river_wrong (begun c.before).args.river ≡ false
+right c = wrong c.before ∙ c.if-not-river_fits.false-raw
 
-returns : tie.Need-returns
-returns c = stays _ _ _ 4 refl (river_refused _ _ _ (wrong c.before ∙ c.if1.true))
+returns : tie.Need-returns-then-not-river_fits
+returns c = stays _ _ _ 4 refl (river_refused _ _ _ (wrong c.before ∙ c.if-not-river_fits.true-raw))
 
-returns_2 : tie.Need-returns-2
-returns_2 c = stays _ _ _ 10 refl (output_refused _ _ _ (right c.before) c.if2.true)
+returns_2 : tie.Need-returns-then-output-bytes
+returns_2 c = stays _ _ _ 10 refl (output_refused _ _ _ (right c.before) c.if-output-bytes.true)
 
-returns_3 : tie.Need-returns-3
+returns_3 : tie.Need-returns-then-work-bytes
 returns_3 c =
     let left = c.before in
-    stays _ _ _ 10 refl (work_refused _ _ _ (right left.before) left.if2.false c.if3.true)
+    stays _ _ _ 10 refl (work_refused _ _ _ (right left.before) left.if-output-bytes.false c.if-work-bytes.true)
 
-write_cells_requires : tie.Need-write-cells-requires
+write_cells_requires : tie.Need-write_cells-requires
 write_cells_requires c κs =
-    let space = c.before.before.before.before in
+    let space = c.before.before.before in
     let room = space.before in
-    ((river-cells _ (right room.before)).1, room.if2.false)
+    ((river-cells _ (right room.before)).1, room.if-output-bytes.false)
 
-returns_4 : tie.Need-returns-4
+returns_4 : tie.Need-returns
 unfolding record_of
 returns_4 c =
     let copied = c.before.before in
     let lent = copied.before.before.before in
-    let written = lent.before.before in
+    let written = lent.before in
     let fits = written.before.before.before in
-    let space = fits.before.before in
+    let space = fits.before in
     let room = space.before in
     let args = (begun room.before.before).args in
-    let r = args.t1 in
-    let filled : written.write-cells.new.0 ≡ put args.output.now 0 (record_of r) =
-    written.write-cells.ensures in
-    let same = copied.copy-bytes.ensures in (
-      sym (write_accepted r _ _ (right room.before) room.if2.false space.if3.false),
+    let r = args.river in
+    let filled : written.write_cells.new.out ≡ put args.output.now 0 (record_of r) =
+    written.write_cells.ensures in
+    let same = copied.copy_bytes.ensures in (
+      sym (write_accepted r _ _ (right room.before) room.if-output-bytes.false space.if-work-bytes.false),
       (
         filled ∙ sym (output_written r args.output.now),
-        work_written r _ _ args.work.now _ room.if2.false space.if3.false filled same,
+        work_written r _ _ args.work.now _ room.if-output-bytes.false space.if-work-bytes.false filled same,
       ),
     )
 

@@ -2,7 +2,7 @@
 -- negative, give the letter. No assumptions.
 use Prim.Native.Nat.{ℕ, ◌<◌, ◌≤◌, ◌-◌}
 use mathlib.Core.Bool.{true, false, not}
-use mathlib.Core.Path.{◌≡◌, refl, sym, ◌∙◌}
+use mathlib.Core.Path.{◌≡◌, refl, sym, ap, ◌∙◌}
 use native.Mathlib.Omega.{arith}
 use borrow.Author.Rules.{rules}
 use lib.Dec.{lit<}
@@ -16,39 +16,39 @@ use Rattle.river.proofs.letter_of.Statement.{statement}
 use Rattle.river.proofs.letter_of.Tie as tie
 
 abbrev begun : tie.After-river_fits → tie.Start
-begun c = c.before.before.before.before
+begun c = c.before.before.before
 
-wrong : (c : tie.After-river_fits) → river_wrong (begun c).args.t1 ≡ not c.river_fits.result
-wrong c = wrong_tested (begun c).args.t1 _ c.river_fits.ensures
+wrong : (c : tie.After-river_fits) → river_wrong (begun c).args.river ≡ not c.river_fits.result
+wrong c = wrong_tested (begun c).args.river _ c.river_fits.ensures
 
 -- Refused by 4.
 returns : tie.Need-returns-then-not-river_fits
 unfolding letter_answer letter_number first_holding
-returns c = rw (wrong c.before ∙ c.if-not-river_fits.true)
+returns c = rw (wrong c.before ∙ ap not c.if-not-river_fits.true)
 
 -- Past check 4.
-right : (c : tie.Else-not-river_fits) → river_wrong (begun c.before).args.t1 ≡ false
-right c = wrong c.before ∙ c.if-not-river_fits.false
+right : (c : tie.Else-not-river_fits) → river_wrong (begun c.before).args.river ≡ false
+right c = wrong c.before ∙ ap not c.if-not-river_fits.false
 
 -- Past check 5 too.
 abbrev start : tie.Then-in_range → tie.Start
 start c = begun c.before.before.before
 
-exists : (c : tie.Then-in_range) → cell_exists (start c).args.t1 (start c).args.cell ≡ true
+exists : (c : tie.Then-in_range) → cell_exists (start c).args.river (start c).args.cell ≡ true
 exists c = sym c.before.in_range.ensures ∙ c.if-in_range.true
 
 -- What is known of the cell's amount of a substance.
-known : (c : tie.Then-in_range) (s : ℕ) → s < substances → AmountKnown (start c).args.t1 (start c).args.cell s
-known c s h = amount_known (start c).args.t1 (right c.before.before) (start c).args.cell s (exists c) h
+known : (c : tie.Then-in_range) (s : ℕ) → s < substances → AmountKnown (start c).args.river (start c).args.cell s
+known c s h = amount_known (start c).args.river (right c.before.before) (start c).args.cell s (exists c) h
 
 at_cell : (c : tie.Then-in_range) → (1 ≤ (start c).args.cell) × ((start c).args.cell - 1 < most_cells)
 at_cell c = let k = known c 0 (lit< tt) in (k.first, k.below)
 
 -- O2 and NH4.
-oxygen : (c : tie.Then-in_range) → AmountKnown (start c).args.t1 (start c).args.cell (place o2)
+oxygen : (c : tie.Then-in_range) → AmountKnown (start c).args.river (start c).args.cell (place o2)
 oxygen c = known c (place o2) (lit< tt)
 
-ammonium : (c : tie.Then-in_range) → AmountKnown (start c).args.t1 (start c).args.cell (place nh4)
+ammonium : (c : tie.Then-in_range) → AmountKnown (start c).args.river (start c).args.cell (place nh4)
 ammonium c = known c (place nh4) (lit< tt)
 
 letter_requires : tie.Need-letter-requires

@@ -29,7 +29,7 @@ returns c =
 decimal-after_requires_2 : tie.Need-decimal_after-requires-2
 decimal-after_requires_2 c κs =
     digits_from_blanks _ _ c.before.blanks-start.ensures
-    (⊎_elim (λ w l. w.2.left) (λ w l. absurd (omega arith)) c.if-start-columns.branch)
+    (⊎_elim (λ w l. w.if-columns-start-eq45.false) (λ w l. absurd (omega arith)) c.if-start-columns.branch-raw)
 
 -- Without a minus.
 returns_2 : tie.Need-returns

@@ -19,89 +19,89 @@ use Rattle.totals.proofs.totals_of.Statement.{statement}
 use Rattle.totals.proofs.totals_of.Tie as tie
 
 -- Where the set was accepted, from the test of the river; and the start, from where the river is known to be right.
-abbrev known : tie.After-river-fits → tie.Else1
-known c = c.before.before.before.before
+abbrev known : tie.After-river_fits → tie.Else-number-ne-NONE
+known c = c.before.before.before
 
-abbrev start : tie.Else2 → tie.Start
+abbrev start : tie.Else-not-river_fits → tie.Start
 start c = (known c.before).before.before
 
-accepted : (c : tie.Else1) → set_number c.before.before.args.set ≡ 0
-accepted c = sym c.before.number_of_lem.ensures ∙ c.if1.false
+accepted : (c : tie.Else-number-ne-NONE) → set_number c.before.before.args.set ≡ 0
+accepted c = sym c.before.number_of-number.ensures ∙ c.if-number-ne-NONE.false
 
-wrong : (c : tie.After-river-fits) → river_wrong (known c).before.before.args.t2 ≡ not c.river_fits.result
-wrong c = wrong_tested (known c).before.before.args.t2 _ c.river_fits.ensures
+wrong : (c : tie.After-river_fits) → river_wrong (known c).before.before.args.river ≡ not c.river_fits.result
+wrong c = wrong_tested (known c).before.before.args.river _ c.river_fits.ensures
 
-right : (c : tie.Else2) → river_wrong (start c).args.t2 ≡ false
-right c = wrong c.before ∙ c.if2.false
+right : (c : tie.Else-not-river_fits) → river_wrong (start c).args.river ≡ false
+right c = wrong c.before ∙ ap not c.if-not-river_fits.false
 
 -- The cell exists where the test is passed: its number is from 1 to the number of cells.
-exists : (c : tie.Then3) → let a = (start c.before.before).args in cell_exists a.t2 a.cell ≡ true
-exists c = sym c.before.in_range.ensures ∙ c.if3.true
+exists : (c : tie.Then-in_range) → let a = (start c.before.before).args in cell_exists a.river a.cell ≡ true
+exists c = sym c.before.in_range.ensures ∙ c.if-in_range.true
 
-inside : (c : tie.Then3) → let a = (start c.before.before).args in (1 ≤ a.cell) × (a.cell ≤ a.t2.cells)
-inside c = let a = (start c.before.before).args in cell_bound a.t2 a.cell (exists c)
+inside : (c : tie.Then-in_range) → let a = (start c.before.before).args in (1 ≤ a.cell) × (a.cell ≤ a.river.cells)
+inside c = let a = (start c.before.before).args in cell_bound a.river a.cell (exists c)
 
 -- Refused by 1, 2 or 3.
-returns : tie.Need-returns
+returns : tie.Need-returns-then-number-ne-NONE
 unfolding totals_answer
 returns c =
     let at_number = c.before.before in
     let a = at_number.before.args in
-    let is = at_number.number_of_lem.ensures in
-    let refused = ne_eqb (set_number a.set) 0 (λ e. c.before.if1.true (is ∙ e)) in
-    c.refused-totals.ensures ∙ ap refused_totals is ∙ rw (totals_number_lem a.set a.t2 a.cell, refused, refused)
+    let is = at_number.number_of-number.ensures in
+    let refused = ne_eqb (set_number a.set) 0 (λ e. c.before.if-number-ne-NONE.true (is ∙ e)) in
+    c.refused_totals.ensures ∙ ap refused_totals is ∙ rw (totals_number_lem a.set a.river a.cell, refused, refused)
 
 -- By 4.
-returns_2 : tie.Need-returns-2
+returns_2 : tie.Need-returns-then-not-river_fits
 unfolding totals_answer first_holding
 returns_2 c =
     let at_river = c.before.before in
     let a = (known at_river).before.before.args in
-    c.refused-totals2.ensures
+    c.refused_totals-then-not-river_fits.ensures
     ∙ rw (
-      totals_number_lem a.set a.t2 a.cell,
+      totals_number_lem a.set a.river a.cell,
       accepted (known at_river),
-      wrong at_river ∙ c.before.if2.true,
+      wrong at_river ∙ ap not c.before.if-not-river_fits.true,
     )
 
-totals_at_requires : tie.Need-totals-at-requires
+totals_at_requires : tie.Need-totals_at-requires
 totals_at_requires c κs =
-    let at_cell = c.before.before in
+    let at_cell = c.before in
     let passed = at_cell.before.before in
     let a = (start passed).args in
     let set-right = (accepted-passes a.set (accepted (known passed.before))).0 in
-    let cells = river-cells a.t2 (right passed) in
+    let cells = river-cells a.river (right passed) in
     let bound = inside at_cell in
-    (omega arith, cell_addable a.set a.t2 set-right (right passed) _ (omega arith))
+    (omega arith, cell_addable a.set a.river set-right (right passed) _ (omega arith))
 
 -- Not refused.
-returns_3 : tie.Need-returns-3
+returns_3 : tie.Need-returns-then-in_range
 unfolding totals_answer first_holding totals_at weighted_total weights_of held_by cell_total contents held_at
 returns_3 c =
-    let at_cell = c.before.before.before in
+    let at_cell = c.before.before in
     let passed = at_cell.before.before in
     let a = (start passed).args in
-    c.totals-at.ensures
+    c.totals_at.ensures
     ∙ rw (
-      totals_number_lem a.set a.t2 a.cell,
+      totals_number_lem a.set a.river a.cell,
       accepted (known passed.before),
       right passed,
       exists at_cell,
     )
 
 -- By 5.
-returns_4 : tie.Need-returns-4
+returns_4 : tie.Need-returns
 unfolding totals_answer first_holding
 returns_4 c =
     let tested = c.before.before in
     let passed = tested.before in
     let a = (start passed).args in
-    c.refused-totals3.ensures
+    c.refused_totals-2.ensures
     ∙ rw (
-      totals_number_lem a.set a.t2 a.cell,
+      totals_number_lem a.set a.river a.cell,
       accepted (known passed.before),
       right passed,
-      sym tested.in_range.ensures ∙ c.before.if3.false,
+      sym tested.in_range.ensures ∙ c.before.if-in_range.false,
     )
 
 pub totals_of_spec : {M : Type 1} → statement M

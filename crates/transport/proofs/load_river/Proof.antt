@@ -3,10 +3,9 @@
 use Prim.Native.Nat.{◌-◌, ◌≤◌, ◌<◌}
 use native.Mathlib.Omega.{arith}
 use mathlib.Core.Bool.{true, false, not, ◌&&◌}
-use mathlib.Core.Path.{◌≡◌, sym, ◌∙◌}
+use mathlib.Core.Path.{◌≡◌, sym, ap, ◌∙◌}
 use borrow.Author.Rules.{rules}
-use borrow.Author.Tests.{not-true, not-false}
-use lib.IntN.{ℤ, ◌+ℤ◌}
+use lib.IntN.{ℤ}
 use mir.Syntax.{w64}
 use mir.Val.{SFits}
 use mir.Facts.{to_z-of_z}
@@ -21,101 +20,101 @@ use Rattle.transport.specs.Load.{loaded_amount, load_number, load_answer}
 use Rattle.transport.proofs.load_river.Statement.{statement}
 use Rattle.transport.proofs.load_river.Tie as tie
 
-abbrev begun : tie.After-river-fits → tie.Start
-begun c = c.before.before.before.before
+abbrev begun : tie.After-river_fits → tie.Start
+begun c = c.before.before.before
 
-wrong : (c : tie.After-river-fits) → river_wrong (begun c).args.river ≡ not c.river_fits.result
+wrong : (c : tie.After-river_fits) → river_wrong (begun c).args.river ≡ not c.river_fits.result
 wrong c = wrong_tested (begun c).args.river _ c.river_fits.ensures
 
-right : (c : tie.Else1) → river_wrong (begun c.before).args.river ≡ false
-right c = wrong c.before ∙ c.if1.false
+right : (c : tie.Else-not-river_fits) → river_wrong (begun c.before).args.river ≡ false
+right c = wrong c.before ∙ ap not c.if-not-river_fits.false
 
 -- The test of the cell and the substance.
 tested : (c : tie.After-both) → let a = (begun c.before.before.before.before).args in
     c.both.result ≡ cell_exists a.river a.cell && substance_exists a.substance
-tested c = rw (c.both.ensures, c.before.in-range2.ensures, c.before.before.in_range.ensures)
+tested c = rw (c.both.ensures, c.before.in_range-2.ensures, c.before.before.in_range.ensures)
 
 -- Past it check 4 does not hold, and the cell and the substance exist.
-abbrev passed : tie.Else2 → tie.Else1
+abbrev passed : tie.Else-not-both → tie.Else-not-river_fits
 passed c = c.before.before.before.before
 
-abbrev start : tie.Else2 → tie.Start
+abbrev start : tie.Else-not-both → tie.Start
 start c = begun (passed c).before
 
-exist : (c : tie.Else2) → let a = (start c).args in
+exist : (c : tie.Else-not-both) → let a = (start c).args in
     cell_exists a.river a.cell && substance_exists a.substance ≡ true
-exist c = sym (tested c.before) ∙ not-false _ c.if2.false
+exist c = sym (tested c.before) ∙ c.if-not-both.false
 
-at_substance : (c : tie.Else2) → (1 ≤ (start c).args.substance) × ((start c).args.substance - 1 < substances)
+at_substance : (c : tie.Else-not-both) → (1 ≤ (start c).args.substance) × ((start c).args.substance - 1 < substances)
 at_substance c =
     let a = (start c).args in
     let bound = substance_bound a.substance (and_right (cell_exists a.river a.cell) _ (exist c)) in
     (bound.0, omega arith)
 
 -- The amount before.
-known : (c : tie.Else2) → let a = (start c).args in AmountKnown a.river a.cell (a.substance - 1)
+known : (c : tie.Else-not-both) → let a = (start c).args in AmountKnown a.river a.cell (a.substance - 1)
 known c =
     let a = (start c).args in
     let exists = and_left _ (substance_exists a.substance) (exist c) in
     amount_known a.river (right (passed c)) a.cell (a.substance - 1) exists (at_substance c).1
 
 -- The amount after.
-abbrev loaded : tie.Else2 → ℤ
+abbrev loaded : tie.Else-not-both → ℤ
 loaded c = let a = (start c).args in loaded_amount a.river a.cell a.substance a.added
 
 -- What `sum_fits` answered; where the sum is in its bounds it fits 64 bits.
-abbrev at_checks : tie.After-sum-fits → tie.Else2
-at_checks c = c.before.before.before.before
+abbrev at_checks : tie.After-sum_fits → tie.Else-not-both
+at_checks c = c.before.before.before
 
-summed : (c : tie.After-sum-fits)
+summed : (c : tie.After-sum_fits)
     → c.sum_fits.result ≡ amount_fits ((start (at_checks c)).args.substance - 1) (loaded (at_checks c))
 summed c =
-    rw (c.before.amount-at.ensures, (known (at_checks c)).same, to_z-of_z (start (at_checks c)).ranges.added)
+    rw (c.before.amount_at-amount.ensures, (known (at_checks c)).same, to_z-of_z (start (at_checks c)).ranges.added)
     at c.sum_fits.ensures
 
-in_bounds : (c : tie.Else3)
+in_bounds : (c : tie.Else-not-sum_fits)
     → amount_fits ((start (at_checks c.before)).args.substance - 1) (loaded (at_checks c.before)) ≡ true
-in_bounds c = sym (summed c.before) ∙ not-false _ c.if3.false
+in_bounds c = sym (summed c.before) ∙ c.if-not-sum_fits.false
 
-sum_fits : (c : tie.Else3) → SFits w64 (loaded (at_checks c.before))
+sum_fits : (c : tie.Else-not-sum_fits) → SFits w64 (loaded (at_checks c.before))
 sum_fits c = fits_abs _ (omega (arith, fits_bound _ _ (at_substance (at_checks c.before)).1 (in_bounds c)))
 
 -- Refused by 4.
-returns : tie.Need-returns
+returns : tie.Need-returns-then-not-river_fits
 unfolding load_answer load_number first_holding
-returns c = rw (wrong c.before ∙ c.if1.true)
+returns c = rw (wrong c.before ∙ ap not c.if-not-river_fits.true)
 
 -- Refused by 5.
-returns_2 : tie.Need-returns-2
+returns_2 : tie.Need-returns-then-not-both
 unfolding load_answer load_number first_holding
 returns_2 c =
     let river-right = right c.before.before.before.before in
-    rw (river-right, sym (tested c.before) ∙ not-true _ c.if2.true)
+    rw (river-right, sym (tested c.before) ∙ c.if-not-both.true)
 
 -- Refused by 8.
-returns_3 : tie.Need-returns-3
+returns_3 : tie.Need-returns-then-not-sum_fits
 unfolding load_answer load_number first_holding
 returns_3 c =
     let at = at_checks c.before in
-    rw (right (passed at), exist at, sym (summed c.before) ∙ not-true _ c.if3.true)
+    rw (right (passed at), exist at, sym (summed c.before) ∙ c.if-not-sum_fits.true)
 
-add_set-amount : tie.Need-overflow-add-set-amount
+add_set-amount : tie.Need-overflow_add-amount
 add_set-amount c =
     let at_sum = c.before.before in
     let at = at_checks at_sum in
-    rw (at_sum.before.amount-at.ensures, (known at).same, to_z-of_z (start at).fits.added) (sum_fits c.before)
+    rw (at_sum.before.amount_at-amount.ensures, (known at).same, to_z-of_z (start at).ranges.added) (sum_fits c.before)
 
 -- The amount is changed.
-returns_4 : tie.Need-returns-4
+returns_4 : tie.Need-returns
 unfolding load_answer load_number first_holding
 returns_4 c =
     let left = c.before.before in
     let at = at_checks left.before in
     rw (
-      c.set-amount.ensures,
-      left.before.before.amount-at.ensures,
+      c.set_amount.ensures,
+      left.before.before.amount_at-amount.ensures,
       (known at).same,
-      to_z-of_z (start at).fits.added,
+      to_z-of_z (start at).ranges.added,
       to_z-of_z (sum_fits left),
       right (passed at),
       exist at,
@@ -134,9 +133,9 @@ load_river_spec =
     (λ c. search rules)
     (λ c. (at_substance c).0)
     (λ c. search rules)
-    (λ c κs. ((known c.before.before).below, (at_substance c.before.before).1))
-    (λ c κs. let at = c.before.before.before in
-    ((at_substance at).1, rw (c.amount-at.ensures, (known at).same) (known at).small))
+    (λ c κs. ((known c.before).below, (at_substance c.before).1))
+    (λ c κs. let at = c.before.before in
+    ((at_substance at).1, rw (c.amount_at-amount.ensures, (known at).same) (known at).small))
     returns_3
     add_set-amount
     (λ c κs. let at = at_checks c.before.before in ((known at).below, (at_substance at).1))

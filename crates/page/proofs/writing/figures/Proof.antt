@@ -5,28 +5,28 @@ use borrow.Author.Rules.{rules}
 use Rattle.page.proofs.writing.figures.Statement.{statement}
 use Rattle.page.proofs.writing.figures.Tie as tie
 
-mul_pairs : tie.Need-overflow-mul-pairs
+mul_pairs : tie.Need-overflow_mul-pairs
 mul_pairs c = omega (arith, hundreds_le c.args.level c.requires)
 
-sub_pairs : tie.Need-overflow-sub-pairs
+sub_pairs : tie.Need-overflow_sub-pairs
 sub_pairs c = hundreds_le c.args.level c.requires
 
-add_pairs : tie.Need-overflow-add-pairs
+add_pairs : tie.Need-overflow_add-pairs
 add_pairs c = omega (arith, pairs_lt c.args.level c.requires)
 
-mul_tens : tie.Need-overflow-mul-tens
+mul_tens : tie.Need-overflow_mul-tens
 mul_tens c = omega (arith, pairs_lt c.args.level c.requires)
 
-mul_digits : tie.Need-overflow-mul-digits
+mul_digits : tie.Need-overflow_mul-digits
 mul_digits c = omega (arith, pairs_lt c.args.level c.requires, tens_le c.args.level c.requires)
 
-sub_digits : tie.Need-overflow-sub-digits
+sub_digits : tie.Need-overflow_sub-digits
 sub_digits c = tens_le c.args.level c.requires
 
-mul_digits_2 : tie.Need-overflow-mul-digits-2
+mul_digits_2 : tie.Need-overflow_mul-digits-2
 mul_digits_2 c = omega (arith, pairs_lt c.args.level c.requires, tens_le c.args.level c.requires)
 
-add_digits : tie.Need-overflow-add-digits
+add_digits : tie.Need-overflow_add-digits
 add_digits c = omega (arith, pairs_lt c.args.level c.requires, tens_le c.args.level c.requires)
 
 returns : tie.Need-returns

@@ -17,15 +17,15 @@ use Rattle.page.proofs.writing.level.Tie as tie
 abbrev amount : tie.Start → ℤ
 amount c = get_or c.args.amounts.now (c.args.c * substances + c.args.s) (pos 0)
 
-fits : (c : tie.After-result) → SFits w64 (amount c.before)
-fits c = sfits_of {w = w64} {z = amount c.before} c.result.given
+fits : (c : tie.After-result-1) → SFits w64 (amount c.before)
+fits c = sfits_of {w = w64} {z = amount c.before} c.result-1.given
 
-cast_result : tie.Need-overflow-cast-result
+cast_result : tie.Need-overflow_cast-result
 cast_result c =
     rw (to_z-of_z {w = w64} {z = amount c.before} (fits c))
     (yes_non_neg c.before.requires.1.2, Fits-nat_abs tt (fits c))
 
-cast_result_2 : tie.Need-overflow-cast-result-2
+cast_result_2 : tie.Need-overflow_cast-result-2
 cast_result_2 c = rw (to_z-of_z {w = w64} {z = amount c.before} (fits c)) (omega (arith, c.before.requires.1.3))
 
 returns : tie.Need-returns

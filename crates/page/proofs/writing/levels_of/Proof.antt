@@ -35,16 +35,16 @@ organic c = rw (div-one (size c 0)) (c.requires.1.1.1 0)
 abbrev at_2 : tie.After-level → tie.Start
 at_2 c = c.before
 
-abbrev at_3 : tie.After-level2 → tie.Start
+abbrev at_3 : tie.After-level-2 → tie.Start
 at_3 c = at_2 c.before
 
-abbrev at_4 : tie.After-level3 → tie.Start
+abbrev at_4 : tie.After-level-3 → tie.Start
 at_4 c = at_3 c.before
 
-abbrev at_5 : tie.After-level4 → tie.Start
+abbrev at_5 : tie.After-level-4 → tie.Start
 at_5 c = at_4 c.before
 
-abbrev at_6 : tie.After-level5 → tie.Start
+abbrev at_6 : tie.After-level-5 → tie.Start
 at_6 c = at_5 c.before
 
 returns : tie.Need-returns
@@ -55,11 +55,11 @@ returns c =
     let first = third.before.before in
     rw (
       first.level.ensures ∙ div-one (size (at_6 fifth) 0),
-      third.before.level2.ensures,
-      third.level3.ensures,
-      fifth.before.level4.ensures,
-      fifth.level5.ensures,
-      c.level6.ensures,
+      third.before.level-2.ensures,
+      third.level-3.ensures,
+      fifth.before.level-4.ensures,
+      fifth.level-5.ensures,
+      c.level-6.ensures,
     )
 
 pub levels_of_spec : {M : Type 1} → statement M

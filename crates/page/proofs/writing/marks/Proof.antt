@@ -16,25 +16,25 @@ digit zero h = absurd (h refl)
 digit (suc r) h = refl
 
 -- One digit.
-returns : tie.Need-returns
+returns : tie.Need-returns-then-grams-lt10
 returns c =
     let g = c.before.args.grams in
     rw (blank (g / 1000) (omega arith), blank (g / 100) (omega arith), blank (g / 10) (omega arith))
 
 -- Two.
-returns_2 : tie.Need-returns-2
+returns_2 : tie.Need-returns-then-grams-lt100
 returns_2 c =
     let g = c.before.before.args.grams in
     rw (blank (g / 1000) (omega arith), blank (g / 100) (omega arith), digit (g / 10) (λ e. omega arith))
 
 -- Three.
-returns_3 : tie.Need-returns-3
+returns_3 : tie.Need-returns-then-grams-lt1000
 returns_3 c =
     let g = c.before.before.before.args.grams in
     rw (blank (g / 1000) (omega arith), digit (g / 100) (λ e. omega arith), digit (g / 10) (λ e. omega arith))
 
 -- Four.
-returns_4 : tie.Need-returns-4
+returns_4 : tie.Need-returns-else-grams-lt1000
 returns_4 c =
     let g = c.before.before.before.args.grams in
     rw (digit (g / 1000) (λ e. omega arith), digit (g / 100) (λ e. omega arith), digit (g / 10) (λ e. omega arith))

@@ -12,24 +12,24 @@ use borrow.Author.Rules.{rules}
 use Rattle.page.proofs.writing.write_cell.Statement.{statement}
 use Rattle.page.proofs.writing.write_cell.Tie as tie
 
-write_row_requires : tie.Need-write-row-requires
+write_row_requires : tie.Need-write_row-requires
 write_row_requires c κs =
     let start : tie.Start = search in
-    let levelled : tie.After-levels-of = search in
-    (omega arith, omega arith, rw levelled.levels_of.ensures start.pre.2.1)
+    let levelled : tie.After-levels_of-levels = search in
+    (omega arith, omega arith, rw levelled.levels_of-levels.ensures start.requires.2.1)
 
 returns : tie.Need-returns
 unfolding levels_at row_of letter_of
 returns c =
-    let called : tie.After-write-row = search in
-    let lettered : tie.After-letter-by = search in
-    let levelled : tie.After-levels-of = search in
+    let called : tie.After-write_row = search in
+    let lettered : tie.After-letter_by-letter = search in
+    let levelled : tie.After-levels_of-levels = search in
     let start : tie.Start = search in
     let args = start.args in
-    let levels_are = levelled.levels_of.ensures in
-    let letter_is : lettered.letter-by.result ≡ letter_of args.amounts.now args.c =
-    lettered.letter-by.ensures ∙ ap (λ (l : List ℕ). letter_by (get_or l 5 0) (get_or l 1 0)) levels_are in
-    called.write-row.ensures
+    let levels_are = levelled.levels_of-levels.ensures in
+    let letter_is : lettered.letter_by-letter.result ≡ letter_of args.amounts.now args.c =
+    lettered.letter_by-letter.ensures ∙ ap (λ (l : List ℕ). letter_by (get_or l 5 0) (get_or l 1 0)) levels_are in
+    called.write_row.ensures
     ∙ ap₂ (λ (letter : ℕ) (l : List ℕ). put args.out.now (args.c * row_bytes) (row (args.c + 1) letter l))
     letter_is levels_are
 

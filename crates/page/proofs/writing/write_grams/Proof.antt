@@ -13,13 +13,13 @@ use Rattle.page.proofs.writing.write_grams.Tie as tie
 
 returns : tie.Need-returns
 returns c =
-    let figured : tie.After-figures = search in
+    let figured : tie.After-figures-n = search in
     let start = figured.before.before in
     let args = start.args in
     let columns = take (args.at + level_columns - args.at) (drop args.at args.row.now) in
     let room : length columns ≡ level_columns = simp (length-take, length-drop) (omega arith) in
     part_written args.row.now _ _ args.at level_columns (grams-length args.level)
-    (grams_written columns args.level _ room start.pre.1 figured.figures.ensures)
+    (grams_written columns args.level _ room start.requires.1 figured.figures-n.ensures)
 
 pub write_grams_spec : {M : Type 1} → statement M
 write_grams_spec =

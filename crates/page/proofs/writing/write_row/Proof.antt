@@ -11,27 +11,27 @@ use borrow.Author.Rules.{rules}
 use Rattle.page.proofs.writing.write_row.Statement.{statement}
 use Rattle.page.proofs.writing.write_row.Tie as tie
 
-write_levels_requires : tie.Need-write-levels-requires
+write_levels_requires : tie.Need-write_levels-requires
 write_levels_requires c κs =
     let start : tie.Start = search in
-    (simp (length-set, length-take, length-drop) (omega arith), start.pre.2)
+    (simp (length-set, length-take, length-drop) (omega arith), start.requires.2)
 
-slice_write_row_5 : tie.Need-slice-write-row-5
+slice_write_row_5 : tie.Need-bounds-row-64
 slice_write_row_5 c =
-    let called : tie.After-write-levels = search in
-    rw called.write-levels.kept.0 (simp (length-set, length-take, length-drop) (omega arith))
+    let called : tie.After-write_levels = search in
+    rw called.write_levels.auto.row (simp (length-set, length-take, length-drop) (omega arith))
 
 returns : tie.Need-returns
 returns c =
-    let called : tie.After-write-levels = search in
+    let called : tie.After-write_levels = search in
     let start : tie.Start = search in
     let args = start.args in
     let part = take (args.at + row_bytes - args.at) (drop args.at args.out.now) in
     let room : length part ≡ row_bytes = simp (length-take, length-drop) (omega arith) in
-    let six = start.pre.2.0 in
+    let six = start.requires.2.0 in
     part_written args.out.now _ _ args.at row_bytes (row-length args.cell args.letter args.levels.now six)
-    (row_written part _ args.cell args.letter args.levels.now room start.pre.1 six
-    called.write-levels.ensures)
+    (row_written part _ args.cell args.letter args.levels.now room start.requires.1 six
+    called.write_levels.ensures)
 
 pub write_row_spec : {M : Type 1} → statement M
 write_row_spec =

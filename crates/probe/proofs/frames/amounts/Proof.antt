@@ -22,10 +22,10 @@ returns c =
     let ammonium = nitrite.before in
     λ i. record {
       number = 0;
-      ammonium = (kept_is ammonium.grains.result ammonium.grains.type-inv ∙ ammonium.grains.ensures) i;
-      nitrite = (kept_is nitrite.grains-2.result nitrite.grains-2.type-inv ∙ nitrite.grains-2.ensures) i;
-      nitrate = (kept_is nitrate.grains-3.result nitrate.grains-3.type-inv ∙ nitrate.grains-3.ensures) i;
-      phosphate = (kept_is phosphate.grains-4.result phosphate.grains-4.type-inv ∙ phosphate.grains-4.ensures) i;
+      ammonium = (kept_is ammonium.grains.result ammonium.grains.type_inv ∙ ammonium.grains.ensures) i;
+      nitrite = (kept_is nitrite.grains-2.result nitrite.grains-2.type_inv ∙ nitrite.grains-2.ensures) i;
+      nitrate = (kept_is nitrate.grains-3.result nitrate.grains-3.type_inv ∙ nitrate.grains-3.ensures) i;
+      phosphate = (kept_is phosphate.grains-4.result phosphate.grains-4.type_inv ∙ phosphate.grains-4.ensures) i;
       oxygen = c.oxygen_amount.ensures i;
     }
 

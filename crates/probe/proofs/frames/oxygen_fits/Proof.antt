@@ -6,10 +6,10 @@ use Rattle.probe.proofs.frames.oxygen_fits.Statement.{statement}
 use Rattle.probe.proofs.frames.oxygen_fits.Tie as tie
 
 returns : tie.Need-returns-in-Mass
-returns c = c.reading_fits.ensures ∙ sym (ap oxygen_fits c.before.before.oxygen-1.given.1)
+returns c = c.reading_fits.ensures ∙ sym (ap oxygen_fits c.in-Mass.is)
 
 returns_2 : tie.Need-returns-in-Percent
-returns_2 c = c.reading_fits-in-Percent.ensures ∙ sym (ap oxygen_fits c.before.before.oxygen-in-Percent-1.given.1)
+returns_2 c = c.reading_fits-in-Percent.ensures ∙ sym (ap oxygen_fits c.in-Percent.is)
 
 pub oxygen_fits_spec : {M : Type 1} → statement M
 oxygen_fits_spec =

@@ -14,7 +14,7 @@ use Rattle.probe.proofs.readings.scaled_floor.Tie as tie
 
 -- An f32 is a value of its format.
 held : (c : tie.Start) → T (fits binary32 c.args.x)
-held c = subst T (sym c.well-formed.0.1) tt
+held c = subst T (sym c.well_formed.0.1) tt
 
 facts : (c : tie.Start)
     → Fields c.args.x (to_bits binary32 c.args.x % 2147483648 / 8388608) (to_bits binary32 c.args.x % 8388608) c.args.numerator c.args.denominator
@@ -23,7 +23,7 @@ facts c = fields_of c.args.x c.args.numerator c.args.denominator (held c) c.requ
 returns : tie.Need-returns-then-field-eq0
 returns c = sym ((facts c.before).none c.if-field-eq0.true)
 
-mul_scaled : tie.Need-overflow-mul-scaled
+mul_scaled : tie.Need-overflow_mul-scaled
 mul_scaled c =
     let start = c.before in
     record { fits = fits_64 (to_bits binary32 start.args.x % 8388608) start.args.numerator (mod-lt (to_bits binary32 start.args.x) (lit< tt)) start.requires.1 }

@@ -10,18 +10,18 @@ use borrow.Author.Rules.{rules}
 use Rattle.record.proofs.writing.value_at.Statement.{statement}
 use Rattle.record.proofs.writing.value_at.Tie as tie
 
-returns : tie.Need-returns
+returns : tie.Need-returns-then-k-lt-SUBSTANCES
 returns c =
     let args = c.before.before.args in
-    kept_is (get_or args.amounts.now (args.c * substances + args.k) (pos 0)) c.result.given
-    ∙ sym (value_amount args.amounts.now args.carries.now args.c args.k c.before.if1.true)
+    kept_is (get_or args.amounts.now (args.c * substances + args.k) (pos 0)) c.result-1.given
+    ∙ sym (value_amount args.amounts.now args.carries.now args.c args.k c.before.if-k-lt-SUBSTANCES.true)
 
-returns_2 : tie.Need-returns-2
+returns_2 : tie.Need-returns
 returns_2 c =
     let args = c.before.before.before.args in
-    kept_is c.wide.result c.wide.type-inv
+    kept_is c.wide.result c.wide.type_inv
     ∙ c.wide.ensures
-    ∙ sym (value_carry args.amounts.now args.carries.now args.c args.k c.before.before.if1.false)
+    ∙ sym (value_carry args.amounts.now args.carries.now args.c args.k c.before.before.if-k-lt-SUBSTANCES.false)
 
 pub value_at_spec : {M : Type 1} → statement M
 value_at_spec =

@@ -21,8 +21,8 @@ write_front_spec =
     (tie.spec
     (λ c κs. search rules) (λ c. search rules) (λ c. search rules) (λ c. search rules) (λ c. search rules)
     (λ c. search rules) (λ c. search rules)
-    (λ c. simp length-set (omega (arith, c.before.before.before.before.write_two.auto.0)))
-    (λ c. simp length-set (omega (arith, c.before.before.before.before.write_two.auto.0)))
-    (λ c. simp length-set (omega (arith, c.before.before.before.before.write_two.auto.0)))
+    (λ c. simp length-set (omega (arith, c.before.before.before.before.write_two.auto.out)))
+    (λ c. simp length-set (omega (arith, c.before.before.before.before.write_two.auto.out)))
+    (λ c. simp length-set (omega (arith, c.before.before.before.before.write_two.auto.out)))
     (λ c. search rules)
     returns)

@@ -21,12 +21,12 @@ returns c =
     let front = value.before.before.before.before in
     let start = front.before.before.before.before in
     let args = start.args in
-    let fronted = front.write-front.new.0 in
+    let fronted = front.write_front.new.line in
     let part = take (args.at + line_bytes - args.at) (drop args.at args.out.now) in
     let room : length part ≡ line_bytes = simp (length-take, length-drop) (omega arith) in
     let columns = ap (λ (z : ℤ). put_within fronted 6 (decimal 20 z)) (to_z-of_z start.ranges.value) in
     part_written args.out.now _ _ args.at line_bytes (line-length args.cell (args.k + 1) args.value)
-    (line_written part fronted _ _ _ _ room front.write-front.ensures (value.write-decimal.ensures ∙ columns))
+    (line_written part fronted _ _ _ _ room front.write_front.ensures (value.write_decimal.ensures ∙ columns))
 
 pub write_line_spec : {M : Type 1} → statement M
 write_line_spec =

@@ -5,7 +5,7 @@ use Rattle.record_reading.proofs.reading.front_right.Statement.{statement}
 use Rattle.record_reading.proofs.reading.front_right.Tie as tie
 
 -- The start, from the call that makes the columns of the line.
-abbrev begun : tie.After-two-columns2 → tie.Start
+abbrev begun : tie.After-two_columns-line_columns → tie.Start
 begun c = c.before.before.before
 
 returns : tie.Need-returns
@@ -14,7 +14,7 @@ returns c =
     let line_tested = cell_tested.before.before.before.before in
     let start = begun line_tested.before.before.before in
     let args = start.args in
-    let bytes = front_read args.text.now args.at args.cell args.line start.pre in
+    let bytes = front_read args.text.now args.at args.cell args.line start.requires in
     cc
 
 pub front_right_spec : {M : Type 1} → statement M

@@ -6,13 +6,13 @@ use Rattle.record_reading.specs.Reading.{highest_on}
 use Rattle.record_reading.proofs.reading.highest_on.Statement.{statement}
 use Rattle.record_reading.proofs.reading.highest_on.Tie as tie
 
-returns : tie.Need-returns
+returns : tie.Need-returns-then-k-lt-SUBSTANCES
 unfolding highest_on
-returns c = rw (lt-ltb _ _ c.if1.true) refl
+returns c = rw (lt-ltb _ _ c.if-k-lt-SUBSTANCES.true) refl
 
-returns_2 : tie.Need-returns-2
+returns_2 : tie.Need-returns-else-k-lt-SUBSTANCES
 unfolding highest_on
-returns_2 c = rw (le-ltb _ _ c.if1.false) refl
+returns_2 c = rw (le-ltb _ _ c.if-k-lt-SUBSTANCES.false) refl
 
 pub highest_on_spec : {M : Type 1} → statement M
 highest_on_spec = tie.close (tie.spec (λ c. search rules) returns returns_2)

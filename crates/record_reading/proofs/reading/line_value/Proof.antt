@@ -11,31 +11,31 @@ use borrow.Author.Rules.{rules}
 use Rattle.record_reading.proofs.reading.line_value.Statement.{statement}
 use Rattle.record_reading.proofs.reading.line_value.Tie as tie
 
-returns : tie.Need-returns
+returns : tie.Need-returns-then-text-at-ne10
 returns c =
     let start = c.before.before.before.before in
-    c.no_value.ensures ∙ sym (end_refused _ _ start.requires _ _ _ _ c.before.if1.true)
+    c.no_value.ensures ∙ sym (end_refused _ _ start.requires _ _ _ _ c.before.if-text-at-ne10.true)
 
-returns_2 : tie.Need-returns-2
+returns_2 : tie.Need-returns-then-front_right
 returns_2 c =
     let then = c.before.before in
     let tested = then.before in
     let feed = tested.before in
     let start = feed.before.before.before in
     let args = start.args in
-    let front = sym tested.front-right.ensures ∙ then.if2.true in
+    let front = sym tested.front_right.ensures ∙ then.if-front_right.true in
     let width : args.at + 26 - (args.at + 6) ≡ 20 = omega arith in
     let columns = ap (λ (n : ℕ). take n (drop (args.at + 6) args.text.now)) width in
-    c.read-decimal.ensures
+    c.read_decimal.ensures
     ∙ (λ i. parse (to_z-of_z start.ranges.lowest i) (to_z-of_z start.ranges.highest i) (columns i))
-    ∙ sym (line_read args.text.now args.at start.requires _ _ _ _ front feed.if1.false)
+    ∙ sym (line_read args.text.now args.at start.requires _ _ _ _ front feed.if-text-at-ne10.false)
 
-returns_3 : tie.Need-returns-3
+returns_3 : tie.Need-returns
 returns_3 c =
     let tested = c.before.before in
     let start = tested.before.before.before.before in
-    let wrong = sym tested.front-right.ensures ∙ c.before.if2.false in
-    c.no-value2.ensures ∙ sym (front_refused _ _ start.requires _ _ _ _ wrong)
+    let wrong = sym tested.front_right.ensures ∙ c.before.if-front_right.false in
+    c.no_value-2.ensures ∙ sym (front_refused _ _ start.requires _ _ _ _ wrong)
 
 pub line_value_spec : {M : Type 1} → statement M
 line_value_spec =

@@ -15,9 +15,9 @@ returns c =
     rw (
       c.both.ensures,
       to_z-of_z at_start.ranges.x,
-      to_z-of_z {z = at_lowest.lowest.result} (sfits_of at_lowest.lowest.type-inv),
+      to_z-of_z {z = at_lowest.lowest.result} (sfits_of at_lowest.lowest.type_inv),
       at_lowest.lowest.ensures,
-      to_z-of_z {z = at_highest.highest.result} (sfits_of at_highest.highest.type-inv),
+      to_z-of_z {z = at_highest.highest.result} (sfits_of at_highest.highest.type_inv),
       at_highest.highest.ensures,
     )
 

@@ -7,6 +7,7 @@ use borrow.Author.Rules.{sfits_of}
 use lib.IntN.{pos}
 use lib.ListN.{get_or}
 use mir.Facts.{to_z-of_z}
+use mir.Syntax.{w64}
 use Rattle.numeric.proofs.Machine.{kept}
 use Rattle.river.specs.Inner.Runs.{RunFits}
 use Rattle.river.proofs.Runs.{run_none, run_more, run_stops}
@@ -24,7 +25,7 @@ kept_is : (c : tie.After-amount_fits-arg-1 invariant-loop decreases-loop) →
     let at_loop = c.before.before in
     let amount = get_or at_loop.before.args.amounts.now (at_loop.before.args.start + at_loop.loop-s.s) (pos 0) in
     kept amount ≡ amount
-kept_is c = to_z-of_z (sfits_of c.amount_fits-arg-1.given)
+kept_is c = to_z-of_z {w = w64} (sfits_of c.amount_fits-arg-1.given)
 
 loop_again : tie.Need-loop-s-preserved invariant-loop decreases-loop
 loop_again c =

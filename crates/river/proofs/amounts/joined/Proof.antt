@@ -22,8 +22,8 @@ loop_again c =
     let at_loop = c.before.before in
     let args = at_loop.before.args in (
       omega arith,
-      covers_more args.amounts.now args.start at_loop.loop-i.i at_loop.loop-i.bits
-          (to_z-of_z (sfits_of c.bits-1.given)) at_loop.loop-i.invariant.1,
+      covers_more args.amounts.now args.start at_loop.loop-i.i at_loop.loop-i.bits-bits
+          (to_z-of_z {w = w64} (sfits_of c.bits-1.given)) at_loop.loop-i.invariant.1,
     )
 
 returns : tie.Need-returns invariant-loop decreases-loop

@@ -4,7 +4,6 @@ use mathlib.Core.Bool.{true≢false}
 use mathlib.Core.Path.{refl, sym}
 use native.Mathlib.Omega.{arith}
 use borrow.Author.Rules.{rules}
-use borrow.Author.Tests.{not-false}
 use Rattle.numeric.specs.Check.{every}
 use Rattle.stoichiometry.specs.Substances.{substances}
 use Rattle.river.specs.Rivers.{lowest_at, highest_at}
@@ -33,10 +32,10 @@ returns_5 c e =
     let args = after_first.before.before.args in
     let amounts = args.amounts.now in
     let start = args.start in
-    let first = after_first.before.run_fits.ensures (not-false _ after_first.if-not-run_fits.false) in
-    let grains = after_grains.before.run_fits-2.ensures (not-false _ after_grains.if-not-run_fits-2.false) in
-    let net = after_net.before.each_amount_fits.ensures.0 (not-false _ after_net.if-not-each_amount_fits.false) in
-    let organics = after-organics.before.run_fits-3.ensures (not-false _ after-organics.if-not-run_fits-3.false) in
+    let first = after_first.before.run_fits.ensures after_first.if-not-run_fits.false in
+    let grains = after_grains.before.run_fits-2.ensures after_grains.if-not-run_fits-2.false in
+    let net = after_net.before.each_amount_fits.ensures.0 after_net.if-not-each_amount_fits.false in
+    let organics = after-organics.before.run_fits-3.ensures after-organics.if-not-run_fits-3.false in
     let to_net = run-append amounts start 0 2 8 first grains in
     let to_organics = run-append amounts start 0 8 9 to_net net in
     let to_last = run-append amounts start 0 9 15 to_organics organics in

@@ -5,7 +5,7 @@ use mir.Facts.{to_z-of_z, Fits-nat_abs}
 use Rattle.river.proofs.cells.level.Statement.{statement}
 use Rattle.river.proofs.cells.level.Tie as tie
 
-cast_result : tie.Need-overflow-cast-result
+cast_result : tie.Need-overflow_cast-result
 cast_result c = rw (to_z-of_z c.ranges.amount) (yes_non_neg c.requires.0, Fits-nat_abs tt c.ranges.amount)
 
 pub level_spec : {M : Type 1} → statement M

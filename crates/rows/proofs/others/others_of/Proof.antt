@@ -18,7 +18,7 @@ other-changes_requires : tie.Need-other_changes-requires
 other-changes_requires c κs =
     let r = c.before.before.released_by-r.ensures.1 in
     let k = kind_in_lem c.before in
-    (r, k, rw (result_is _ c.fifteenth-e.ensures c.fifteenth-e.type-inv) (fifteenth_bound _ _ r k))
+    (r, k, rw (result_is _ c.fifteenth-e.ensures c.fifteenth-e.type_inv) (fifteenth_bound _ _ r k))
 
 returns : tie.Need-returns
 unfolding others_from
@@ -27,7 +27,7 @@ returns c =
     let after-k = after_e.before in
     let released = after-k.before.released_by-r.ensures.0 in
     let f = after-k.before.before.ranges in
-    rw (c.other_changes.ensures, result_is _ after_e.fifteenth-e.ensures after_e.fifteenth-e.type-inv)
+    rw (c.other_changes.ensures, result_is _ after_e.fifteenth-e.ensures after_e.fifteenth-e.type_inv)
     (rw (after-k.kind_of-k.ensures, released) (rw (to_z-of_z f.x, to_z-of_z f.y, to_z-of_z f.z)))
 
 pub others_of_spec : {M : Type 1} → statement M

@@ -21,11 +21,11 @@ returns c =
     let made =
     (λ t.
     record {
-      c = result_is _ after1.released_part.ensures after1.released_part.type-inv t;
-      h = result_is _ after2.released_part-2.ensures after2.released_part-2.type-inv t;
-      o = result_is _ after3.released_part-3.ensures after3.released_part-3.type-inv t;
-      n = result_is _ after4.released_part-4.ensures after4.released_part-4.type-inv t;
-      p = result_is _ c.released_part-5.ensures c.released_part-5.type-inv t;
+      c = result_is _ after1.released_part.ensures after1.released_part.type_inv t;
+      h = result_is _ after2.released_part-2.ensures after2.released_part-2.type_inv t;
+      o = result_is _ after3.released_part-3.ensures after3.released_part-3.type_inv t;
+      n = result_is _ after4.released_part-4.ensures after4.released_part-4.type_inv t;
+      p = result_is _ c.released_part-5.ensures c.released_part-5.type_inv t;
     })
     ∙ (λ t. released_by (to_z-of_z fits.x t) a.a (to_z-of_z fits.y t) a.b (to_z-of_z fits.z t) a.c) in
     (made, rw made (released_in fits.x fits.y fits.z start.requires.0 start.requires.1 start.requires.2))

@@ -7,6 +7,7 @@ use borrow.Author.Rules.{sfits_of}
 use lib.IntN.{pos}
 use lib.ListN.{get_or}
 use mir.Facts.{to_z-of_z}
+use mir.Syntax.{w64}
 use Rattle.numeric.specs.Table.{run}
 use Rattle.numeric.proofs.Filling.{run_none, run_more}
 use Rattle.stoichiometry.specs.Substances.{substances}
@@ -24,7 +25,7 @@ loop_again : tie.Need-loop-s-preserved invariant-loop decreases-loop
 loop_again c =
     let at_loop = c.before.before in (
       omega arith,
-      run_more _ _ at_loop.loop-s.s _ _ _ at_loop.loop-s.invariant.1 (to_z-of_z (sfits_of c.entries-1.given)),
+      run_more _ _ at_loop.loop-s.s _ _ _ at_loop.loop-s.invariant.1 (to_z-of_z {w = w64} (sfits_of c.entries-1.given)),
     )
 
 returns : tie.Need-returns invariant-loop decreases-loop

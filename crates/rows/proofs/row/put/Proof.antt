@@ -24,7 +24,7 @@ returns c =
     let made = copied.before.before.before in
     let a = made.before.args in
     let f = made.before.ranges in
-    let line = made.row.ensures
+    let line = made.row-line.ensures
     ∙ λ t. row_list (line_of a.x (to_z-of_z f.dx t) a.y (to_z-of_z f.dy t) a.z (to_z-of_z f.dz t)) a.d in (
       copied.copy_row.ensures ∙ (λ t. row_copied (a.p * substances) (line t) a.entries.now),
       λ t. set a.oxygen.now a.p (to_z-of_z (e_fits c) t),

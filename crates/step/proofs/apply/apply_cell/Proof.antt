@@ -18,13 +18,13 @@ use Rattle.step.proofs.apply.apply_cell.Statement.{statement}
 use Rattle.step.proofs.apply.apply_cell.Tie as tie
 
 -- The function's start from calls 6 and 12 on.
-abbrev from6 : tie.After-apply-one6 → tie.Start
+abbrev from6 : tie.After-apply_one-6 → tie.Start
 from6 c =
     let c4 = c.before.before.before.before in
     let c2 = c4.before.before.before.before in
     c2.before.before.before.before
 
-abbrev from12 : tie.After-apply-one12 → tie.Start
+abbrev from12 : tie.After-apply_one-12 → tie.Start
 from12 c =
     let c10 = c.before.before.before.before in
     let c8 = c10.before.before.before.before in
@@ -63,37 +63,37 @@ returns c =
     let c1 = c2.before.before in
     let start = from6 c6 in
     let stored0 = run_none start.args.out.now (start.args.c * substances) (new start) in
-    let stored1 = more start 0 stored0 c1.apply-one.ensures in
-    let stored2 = more start 1 stored1 c2.apply-one2.ensures in
-    let stored3 = more start 2 stored2 c3.apply-one3.ensures in
-    let stored4 = more start 3 stored3 c4.apply-one4.ensures in
-    let stored5 = more start 4 stored4 c5.apply-one5.ensures in
-    let stored6 = more start 5 stored5 c6.apply-one6.ensures in
-    let stored7 = more start 6 stored6 c7.apply-one7.ensures in
-    let stored8 = more start 7 stored7 c8.apply-one8.ensures in
-    let stored9 = more start 8 stored8 c9.apply-one9.ensures in
-    let stored10 = more start 9 stored9 c10.apply-one10.ensures in
-    let stored11 = more start 10 stored10 c11.apply-one11.ensures in
-    let stored12 = more start 11 stored11 c12.apply-one12.ensures in
-    let stored13 = more start 12 stored12 c13.apply-one13.ensures in
-    let stored14 = more start 13 stored13 c14.apply-one14.ensures in
-    let stored15 = more start 14 stored14 c15.apply-one15.ensures in
-    let stored16 = more start 15 stored15 c16.apply-one16.ensures in
-    let stored17 = more start 16 stored16 c17.apply-one17.ensures in
-    more start 17 stored17 c.apply-one18.ensures
+    let stored1 = more start 0 stored0 c1.apply_one.ensures in
+    let stored2 = more start 1 stored1 c2.apply_one-2.ensures in
+    let stored3 = more start 2 stored2 c3.apply_one-3.ensures in
+    let stored4 = more start 3 stored3 c4.apply_one-4.ensures in
+    let stored5 = more start 4 stored4 c5.apply_one-5.ensures in
+    let stored6 = more start 5 stored5 c6.apply_one-6.ensures in
+    let stored7 = more start 6 stored6 c7.apply_one-7.ensures in
+    let stored8 = more start 7 stored7 c8.apply_one-8.ensures in
+    let stored9 = more start 8 stored8 c9.apply_one-9.ensures in
+    let stored10 = more start 9 stored9 c10.apply_one-10.ensures in
+    let stored11 = more start 10 stored10 c11.apply_one-11.ensures in
+    let stored12 = more start 11 stored11 c12.apply_one-12.ensures in
+    let stored13 = more start 12 stored12 c13.apply_one-13.ensures in
+    let stored14 = more start 13 stored13 c14.apply_one-14.ensures in
+    let stored15 = more start 14 stored14 c15.apply_one-15.ensures in
+    let stored16 = more start 15 stored15 c16.apply_one-16.ensures in
+    let stored17 = more start 16 stored16 c17.apply_one-17.ensures in
+    more start 17 stored17 c.apply_one-18.ensures
 
 pub apply_cell_spec : {M : Type 1} → statement M
 unfolding every digit may_change stands_at changed_by process_at processes_of
 apply_cell_spec =
     tie.close
     (tie.spec
-    (λ c κs. let start : tie.Start = search in (start.pre, lit< tt, told _ _ refl))
-    (λ c κs. let start : tie.Start = search in (start.pre, lit< tt, told _ _ refl))
-    (λ c κs. let start : tie.Start = search in (start.pre, lit< tt, told _ _ refl))
-    (λ c κs. let start : tie.Start = search in (start.pre, lit< tt, told _ _ refl))
-    (λ c κs. let start : tie.Start = search in (start.pre, lit< tt, told _ _ refl))
-    (λ c κs. let start : tie.Start = search in (start.pre, lit< tt, told _ _ refl))
-    (λ c κs. let start : tie.Start = search in (start.pre, lit< tt, told _ _ refl))
+    (λ c κs. let start : tie.Start = search in (start.requires, lit< tt, told _ _ refl))
+    (λ c κs. let start : tie.Start = search in (start.requires, lit< tt, told _ _ refl))
+    (λ c κs. let start : tie.Start = search in (start.requires, lit< tt, told _ _ refl))
+    (λ c κs. let start : tie.Start = search in (start.requires, lit< tt, told _ _ refl))
+    (λ c κs. let start : tie.Start = search in (start.requires, lit< tt, told _ _ refl))
+    (λ c κs. let start : tie.Start = search in (start.requires, lit< tt, told _ _ refl))
+    (λ c κs. let start : tie.Start = search in (start.requires, lit< tt, told _ _ refl))
     (λ c κs. ((from6 (search)).requires, lit< tt, told _ _ refl))
     (λ c κs. ((from6 (search)).requires, lit< tt, told _ _ refl))
     (λ c κs. ((from6 (search)).requires, lit< tt, told _ _ refl))

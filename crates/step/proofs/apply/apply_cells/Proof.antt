@@ -12,27 +12,27 @@ use Rattle.step.specs.Inner.Stepping.{new_from, applied_from}
 use Rattle.step.proofs.apply.apply_cells.Statement.{statement}
 use Rattle.step.proofs.apply.apply_cells.Tie as tie
 
-abbrev invariant-loop : tie.invariant-loop
+abbrev invariant-loop : tie.invariant-loop-c
 invariant-loop n amounts whole entries out₀ c₀ out c =
     (c ≤ n) × RowsFilled most_cells substances n (pos 0) (new_from amounts whole entries) c out
 
-abbrev decreases-loop : tie.decreases-loop
+abbrev decreases-loop : tie.decreases-loop-c
 decreases-loop n amounts whole entries out₀ c₀ out c = n - c
 
-apply_cell_requires : tie.Need-apply-cell-requires invariant-loop decreases-loop
+apply_cell_requires : tie.Need-apply_cell-requires invariant-loop decreases-loop
 apply_cell_requires c κs =
     let at_loop = c.before.before in
     let start = at_loop.before in
     record { cell = omega arith; amount = start.requires.1; batches = start.requires.2; rows = start.requires.3 }
 
-loop_again : tie.Need-loop-preserved invariant-loop decreases-loop
+loop_again : tie.Need-loop-c-preserved invariant-loop decreases-loop
 loop_again c =
     let entered = c.before.before in
     let at_loop = entered.before in
     let start = at_loop.before in
     let next =
-    rows_next most_cells substances _ (pos 0) _ at_loop.loop.c _ _ _ at_loop.loop.invariant.1
-    entered.loop-test.true start.requires.0 (λ s l. refl) c.apply-cell.ensures in
+    rows_next most_cells substances _ (pos 0) _ at_loop.loop-c.c _ _ _ at_loop.loop-c.invariant.1
+    entered.loop-c-test.true start.requires.0 (λ s l. refl) c.apply_cell.ensures in
     (omega arith, next)
 
 returns : tie.Need-returns invariant-loop decreases-loop
@@ -40,8 +40,8 @@ unfolding applied_from
 returns c =
     let at_loop = c.before in
     let start = at_loop.before in
-    let finished : at_loop.loop.c ≡ start.args.n = omega arith in
-    rows_done most_cells substances _ (pos 0) _ _ _ (lit< tt) finished at_loop.loop.invariant.1
+    let finished : at_loop.loop-c.c ≡ start.args.n = omega arith in
+    rows_done most_cells substances _ (pos 0) _ _ _ (lit< tt) finished at_loop.loop-c.invariant.1
 
 pub apply_cells_spec : {M : Type 1} → statement M
 apply_cells_spec =

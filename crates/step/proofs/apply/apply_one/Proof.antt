@@ -18,7 +18,7 @@ added_requires c κs =
     let start = c.before in
     let ready = start.requires.0 in
     let k = start.args.c * substances + start.args.s in
-    let amount = kept_is (get_or start.args.amounts.now k (pos 0)) c.added-arg.given in (
+    let amount = kept_is (get_or start.args.amounts.now k (pos 0)) c.added-arg-1.given in (
       record {
         place = omega (arith, ready.cell);
         substance = start.requires.1;
@@ -33,10 +33,10 @@ returns : tie.Need-returns
 returns c =
     let args = c.before.before.args in
     let k = args.c * substances + args.s in
-    let amount = kept_is (get_or args.amounts.now k (pos 0)) c.before.added-arg.given in
+    let amount = kept_is (get_or args.amounts.now k (pos 0)) c.before.added-arg-1.given in
     let more = sum processes (added_from args.whole.now (args.c * processes) args.entries.now args.s) in
     ap (set args.out.now k)
-    (kept_is c.added.result c.added.type-inv ∙ c.added.ensures ∙ ap (λ (z : ℤ). z +ℤ more) amount)
+    (kept_is c.added.result c.added.type_inv ∙ c.added.ensures ∙ ap (λ (z : ℤ). z +ℤ more) amount)
 
 pub apply_one_spec : {M : Type 1} → statement M
 apply_one_spec =

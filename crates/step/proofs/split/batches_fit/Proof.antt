@@ -10,28 +10,28 @@ use Rattle.step.specs.Inner.Stepping.{cell_batches_fit}
 use Rattle.step.proofs.split.batches_fit.Statement.{statement}
 use Rattle.step.proofs.split.batches_fit.Tie as tie
 
-abbrev invariant-loop : tie.invariant-loop
+abbrev invariant-loop : tie.invariant-loop-c
 invariant-loop n whole c₀ c = (c ≤ n) × (every c (cell_batches_fit whole) ≡ true)
 
-abbrev decreases-loop : tie.decreases-loop
+abbrev decreases-loop : tie.decreases-loop-c
 decreases-loop n whole c₀ c = n - c
 
-loop_again : tie.Need-loop-preserved invariant-loop decreases-loop
+loop_again : tie.Need-loop-c-preserved invariant-loop decreases-loop
 loop_again c =
     let at_loop = c.before.before.before in
-    (omega arith, every_more _ _ at_loop.loop.invariant.1 (sym c.before.cell-batches-fit.ensures ∙ c.if1.true))
+    (omega arith, every_more _ _ at_loop.loop-c.invariant.1 (sym c.before.cell_batches_fit.ensures ∙ c.if-cell_batches_fit.true))
 
 -- A cell with too many.
-returns : tie.Need-returns invariant-loop decreases-loop
+returns : tie.Need-returns-else-cell_batches_fit invariant-loop decreases-loop
 returns c =
     let at_loop = c.before.before.before in
-    sym (every_fails _ at_loop.loop.c _ (omega arith) (sym c.before.cell-batches-fit.ensures ∙ c.if1.false))
+    sym (every_fails _ at_loop.loop-c.c _ (omega arith) (sym c.before.cell_batches_fit.ensures ∙ c.if-cell_batches_fit.false))
 
 -- All fit.
-returns_2 : tie.Need-returns-2 invariant-loop decreases-loop
+returns_2 : tie.Need-returns invariant-loop decreases-loop
 returns_2 c =
-    let all : c.before.loop.c ≡ c.before.before.args.n = omega arith in
-    sym (rw all at c.before.loop.invariant.1)
+    let all : c.before.loop-c.c ≡ c.before.before.args.n = omega arith in
+    sym (rw all at c.before.loop-c.invariant.1)
 
 pub batches_fit_spec : {M : Type 1} → statement M
 batches_fit_spec =

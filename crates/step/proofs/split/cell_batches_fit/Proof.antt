@@ -14,35 +14,35 @@ use Rattle.step.specs.Inner.Stepping.{batch_fits}
 use Rattle.step.proofs.split.cell_batches_fit.Statement.{statement}
 use Rattle.step.proofs.split.cell_batches_fit.Tie as tie
 
-abbrev invariant-loop : tie.invariant-loop
+abbrev invariant-loop : tie.invariant-loop-p
 invariant-loop whole at p₀ p = (p ≤ processes) × (every p (batch_fits whole at) ≡ true)
 
-abbrev decreases-loop : tie.decreases-loop
+abbrev decreases-loop : tie.decreases-loop-p
 decreases-loop whole at p₀ p = processes - p
 
 -- The batches that a turn tests are kept by the machine.
-kept_here : (c : tie.After-if12 invariant-loop decreases-loop) → let at_loop = c.before.before in
+kept_here : (c : tie.After-t9-1 invariant-loop decreases-loop) → let at_loop = c.before.before in
     let a = at_loop.before.args in
-    let x = get_or a.whole.now (a.at + at_loop.loop.p) (pos 0) in
+    let x = get_or a.whole.now (a.at + at_loop.loop-p.p) (pos 0) in
     kept x ≡ x
-kept_here c = kept_is _ c.if12.given
+kept_here c = kept_is _ c.t9-1.given
 
-loop_again : tie.Need-loop-preserved invariant-loop decreases-loop
+loop_again : tie.Need-loop-p-preserved invariant-loop decreases-loop
 loop_again c =
     let at_loop = c.before.before.before in
-    (omega arith, every_more _ _ at_loop.loop.invariant.1 (rw (kept_here c.before) at c.if1.true))
+    (omega arith, every_more _ _ at_loop.loop-p.invariant.1 (rw (kept_here c.before) at c.if-whole-at-le-BATCHES_MOST.true))
 
-returns : tie.Need-returns invariant-loop decreases-loop
+returns : tie.Need-returns-else-whole-at-le-BATCHES_MOST invariant-loop decreases-loop
 returns c =
     let entered = c.before.before in
-    let p = entered.before.loop.p in
-    sym (every_fails processes p _ entered.loop-test.true (rw (kept_here c.before) at c.if1.false))
+    let p = entered.before.loop-p.p in
+    sym (every_fails processes p _ entered.loop-p-test.true (rw (kept_here c.before) at c.if-whole-at-le-BATCHES_MOST.false))
 
-returns_2 : tie.Need-returns-2 invariant-loop decreases-loop
+returns_2 : tie.Need-returns invariant-loop decreases-loop
 returns_2 c =
     let at_loop = c.before in
-    let finished : at_loop.loop.p ≡ processes = omega arith in
-    rw (← finished, at_loop.loop.invariant.1)
+    let finished : at_loop.loop-p.p ≡ processes = omega arith in
+    rw (← finished, at_loop.loop-p.invariant.1)
 
 pub cell_batches_fit_spec : {M : Type 1} → statement M
 cell_batches_fit_spec =

@@ -18,7 +18,7 @@ returns_3 c =
     let at_start = at_large.before.before in
     let args = at_start.args in
     let value : kept at_signed.signed.result ≡ signed args.mark args.size =
-    result_is _ at_signed.signed.ensures at_signed.signed.type-inv in
+    result_is _ at_signed.signed.ensures at_signed.signed.type_inv in
     c.within.ensures
     ∙ ap₂ (λ (l h : ℤ). within l h (kept at_signed.signed.result))
     (to_z-of_z at_start.ranges.lowest) (to_z-of_z at_start.ranges.highest)

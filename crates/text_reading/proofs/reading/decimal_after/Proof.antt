@@ -29,7 +29,7 @@ returns_3 c =
     let at_zero = c.before.before.before in
     let at_start = begun at_zero in
     c.within.ensures
-    ∙ ap₂ (λ (l h : ℤ). within l h (pos 0)) (to_z-of_z at_start.fits.lowest) (to_z-of_z at_start.fits.highest)
+    ∙ ap₂ (λ (l h : ℤ). within l h (pos 0)) (to_z-of_z at_start.ranges.lowest) (to_z-of_z at_start.ranges.highest)
     ∙ sym
     (zero_read _ _ _ _ _ at_start.requires (omega arith) (omega arith) at_zero.if-columns-start-eq48.true c.before.if-mark-eq32.true)
 

@@ -6,7 +6,6 @@ use mathlib.Core.Logic.{⊎_elim}
 use mathlib.Core.Path.{◌≡◌, sym, ap₂, ◌∙◌}
 use native.Mathlib.Omega.{arith}
 use borrow.Author.Rules.{rules}
-use borrow.Author.Tests.{not-true, not-false}
 use lib.IntN.{ℤ}
 use lib.ListN.{length, get_or}
 use mir.Facts.{to_z-of_z}
@@ -47,7 +46,7 @@ digits c =
     let now = (turn_of c.before).before in
     let first = is_digit (byte_at now now.loop-k.k) in
     let second = is_digit (byte_at now (now.loop-k.k + 1)) in
-    let both = sym (tested c.before) ∙ not-false _ c.if-not-both.false in
+    let both = sym (tested c.before) ∙ c.if-not-both.false in
     (and_left first second both, and_right first second both)
 
 -- So many digits have a value that fits.
@@ -62,7 +61,7 @@ last_digit : (c : tie.Else-not-is_digit invariant-loop decreases-loop)
     → let at_then = c.before.before.before in
     let now = at_then.before.before in
     is_digit (byte_at now now.loop-k.k) ≡ true
-last_digit c = sym c.before.is_digit-then-k-end.ensures ∙ not-false _ c.if-not-is_digit.false
+last_digit c = sym c.before.is_digit-then-k-end.ensures ∙ c.if-not-is_digit.false
 
 -- Too many digits.
 returns : tie.Need-returns-then-end-start-gt-DIGITS invariant-loop decreases-loop
@@ -75,10 +74,10 @@ returns_2 : tie.Need-returns-then-not-both invariant-loop decreases-loop
 returns_2 c =
     let at_both = c.before.before in
     let in_loop = turn_of at_both in
-    let wrong = sym (tested at_both) ∙ not-true _ c.before.if-not-both.true in
-    c.none-then-not-both.ensures ∙ sym (two_not _ _ _ _ _ in_loop.before.loop-k.inv in_loop.loop-k-test.taken _ _ wrong)
+    let wrong = sym (tested at_both) ∙ c.before.if-not-both.true in
+    c.none-then-not-both.ensures ∙ sym (two_not _ _ _ _ _ in_loop.before.loop-k.invariant in_loop.loop-k-test.true _ _ wrong)
 
-add_size : tie.Need-overflow-add-size invariant-loop decreases-loop
+add_size : tie.Need-overflow_add-size invariant-loop decreases-loop
 add_size c =
     let bound = small (turn_of c.before.before) in
     let first = digit_range _ (digits c.before).0 in
@@ -90,17 +89,17 @@ loop_again c =
     let in_loop = turn_of c.before.before in
     let two = digits c.before in
     rw c.pair.ensures
-    (digits_two _ _ _ _ _ in_loop.before.loop-k.inv in_loop.loop-k-test.taken two.0 two.1)
+    (digits_two _ _ _ _ _ in_loop.before.loop-k.invariant in_loop.loop-k-test.true two.0 two.1)
 
 -- The last byte is no digit.
 returns_3 : tie.Need-returns-then-not-is_digit invariant-loop decreases-loop
 returns_3 c =
     let at_digit = c.before.before in
     let at_then = at_digit.before.before in
-    let wrong = sym at_digit.is_digit-then-k-end.ensures ∙ not-true _ c.before.if-not-is_digit.true in
+    let wrong = sym at_digit.is_digit-then-k-end.ensures ∙ c.before.if-not-is_digit.true in
     c.none-then-not-is_digit.ensures ∙ sym (digits_not _ _ _ _ _ at_then.before.before.loop-k.invariant _ _ at_then.if-k-end.true wrong)
 
-add_size_2 : tie.Need-overflow-add-size-2 invariant-loop decreases-loop
+add_size_2 : tie.Need-overflow_add-size-then-k-end invariant-loop decreases-loop
 add_size_2 c =
     let bound = small_last c.before.before.before.before in
     let digit = digit_range _ (last_digit c.before) in
@@ -115,14 +114,14 @@ returns_4 c =
     let args = at_start.args in
     c.counted.ensures
     ∙ ap₂ (λ (l h : ℤ). finish l h (digits_seen args.mark joined.if-k-end.size))
-    (to_z-of_z at_start.fits.lowest) (to_z-of_z at_start.fits.highest)
+    (to_z-of_z at_start.ranges.lowest) (to_z-of_z at_start.ranges.highest)
     ∙ ⊎_elim
     (λ w.
-    let digit = sym w.2.ensures ∙ not-false _ w.3.left in
-    let whole = digits_more _ _ _ _ _ now.invariant w.0.taken digit in
-    rw (w.5, w.4.ensures) (sym (digits_end _ _ _ _ _ whole args.lowest args.highest (omega arith))))
-    (λ w. rw w.1 (sym (digits_end _ _ _ _ _ now.invariant args.lowest args.highest w.0.left)))
-    joined.if-k-end.branch
+    let digit = sym w.is_digit-then-k-end.ensures ∙ w.if-not-is_digit.false in
+    let whole = digits_more _ _ _ _ _ now.invariant w.if-k-end.true digit in
+    rw (w.size-is, w.wide.ensures) (sym (digits_end _ _ _ _ _ whole args.lowest args.highest (omega arith))))
+    (λ w. rw w.size-is (sym (digits_end _ _ _ _ _ now.invariant args.lowest args.highest w.if-k-end.false)))
+    joined.if-k-end.branch-raw
 
 pub digits_after_spec : {M : Type 1} → statement M
 digits_after_spec =

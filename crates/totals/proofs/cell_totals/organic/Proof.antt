@@ -27,7 +27,7 @@ known c = grains_le c.args.t c.requires & fraction_small c & all
 
 returns : tie.Need-returns
 returns c =
-    let at_start = c.before in
+    let at_start = c.before.before in
     ran (known at_start) (v 0 ⊗ v 1) tt ∙ organic-part at_start.args.f at_start.args.t at_start.requires
 
 pub organic_spec : {M : Type 1} → statement M
@@ -35,6 +35,6 @@ organic_spec =
     tie.close
     (tie.spec
     (λ c. search rules) (λ c. search rules) (λ c. search rules) (λ c. search rules)
-    (λ c. sfits_of (omega (arith, fraction_small c.before)))
-    (λ c. asked (known c.before) (v 0 ⊗ v 1) tt)
+    (λ c. sfits_of (omega (arith, fraction_small c.before.before)))
+    (λ c. asked (known c.before.before) (v 0 ⊗ v 1) tt)
     returns)

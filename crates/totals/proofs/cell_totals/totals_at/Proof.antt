@@ -20,12 +20,12 @@ returns c =
     λ i.
     record {
       number = 0;
-      carbon = result_is (of 0) after1.total.ensures after1.total.type-inv i;
-      hydrogen = result_is (of 1) after2.total2.ensures after2.total2.type-inv i;
-      oxygen = result_is (of 2) after3.total3.ensures after3.total3.type-inv i;
-      nitrogen = result_is (of 3) after4.total4.ensures after4.total4.type-inv i;
-      phosphorus = result_is (of 4) after5.total5.ensures after5.total5.type-inv i;
-      charge = result_is (of 5) c.total6.ensures c.total6.type-inv i;
+      carbon = result_is (of 0) after1.total.ensures after1.total.type_inv i;
+      hydrogen = result_is (of 1) after2.total-2.ensures after2.total-2.type_inv i;
+      oxygen = result_is (of 2) after3.total-3.ensures after3.total-3.type_inv i;
+      nitrogen = result_is (of 3) after4.total-4.ensures after4.total-4.type_inv i;
+      phosphorus = result_is (of 4) after5.total-5.ensures after5.total-5.type_inv i;
+      charge = result_is (of 5) c.total-6.ensures c.total-6.type_inv i;
     }
 
 pub totals_at_spec : {M : Type 1} → statement M

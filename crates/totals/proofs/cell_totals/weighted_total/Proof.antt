@@ -13,28 +13,28 @@ use Rattle.totals.proofs.TotalsLaws.{SumTurn, sum_turn}
 use Rattle.totals.proofs.cell_totals.weighted_total.Statement.{statement}
 use Rattle.totals.proofs.cell_totals.weighted_total.Tie as tie
 
-abbrev invariant-loop : tie.invariant-loop
+abbrev invariant-loop : tie.invariant-loop-s
 invariant-loop amounts start weights total₀ s₀ total s =
     (s ≤ substances) × (to_z w64 total ≡ sum s (held_by amounts start weights))
 
-abbrev decreases-loop : tie.decreases-loop
+abbrev decreases-loop : tie.decreases-loop-s
 decreases-loop amounts start weights total₀ s₀ total s = substances - s
 
-turn : (c : tie.After-sum2 invariant-loop decreases-loop) → let at_loop = c.before.before.before in
+turn : (c : tie.After-sum-in-loop-s-1 invariant-loop decreases-loop) → let at_loop = c.before.before.before in
     let a = at_loop.before.args in
-    SumTurn a.amounts.now a.start a.weights.now at_loop.loop.s at_loop.loop.sum
+    SumTurn a.amounts.now a.start a.weights.now at_loop.loop-s.s at_loop.loop-s.sum-bits
 turn c =
     let at_loop = c.before.before.before in
     let at_start = at_loop.before in
     let a = at_start.args in
-    sum_turn a.amounts.now a.start a.weights.now at_start.requires.1 at_loop.loop.s (omega arith)
-    c.before.sum.given c.sum2.given at_loop.loop.sum at_loop.loop.invariant.1
+    sum_turn a.amounts.now a.start a.weights.now at_start.requires.1 at_loop.loop-s.s (omega arith)
+    c.before.sum-1.given c.sum-in-loop-s-1.given at_loop.loop-s.sum-bits at_loop.loop-s.invariant.1
 
 returns : tie.Need-returns invariant-loop decreases-loop
 unfolding weighted_total
 returns c =
-    let all : c.before.loop.s ≡ substances = omega arith in
-    rw all at c.before.loop.invariant.1
+    let all : c.before.loop-s.s ≡ substances = omega arith in
+    rw all at c.before.loop-s.invariant.1
 
 pub weighted_total_spec : {M : Type 1} → statement M
 weighted_total_spec =

@@ -9,11 +9,11 @@ use Rattle.transport.proofs.AirLaws.{exchange_bound, exchanged_bound}
 use Rattle.transport.proofs.air.exchanged_part.Statement.{statement}
 use Rattle.transport.proofs.air.exchanged_part.Tie as tie
 
-mul_result_2 : tie.Need-overflow-mul-result-2
+mul_result_2 : tie.Need-overflow_mul-result-2
 mul_result_2 c =
     Fits-below {n = 72000000000000} tt (exchange_bound c.args.constant c.args.seconds c.requires.0 c.requires.1)
 
-cast_result : tie.Need-overflow-cast-result
+cast_result : tie.Need-overflow_cast-result-3
 unfolding exchanged
 cast_result c =
     fits_abs _ (omega (arith, exchanged_bound c.args.constant c.args.seconds c.requires.0 c.requires.1))

@@ -22,51 +22,51 @@ use Rattle.transport.proofs.AirLaws.{AirFigures, air-figures, exchanged_bound}
 use Rattle.transport.proofs.air.gain_of.Statement.{statement}
 use Rattle.transport.proofs.air.gain_of.Tie as tie
 
-level-is : (c : tie.After-oxygen-level) → c.oxygen-level.result ≡ pos (level_of o2 c.before.before.args.amount)
+level-is : (c : tie.After-oxygen_level) → c.oxygen_level.result ≡ pos (level_of o2 c.before.before.args.amount)
 level-is c =
-    c.oxygen-level.ensures ∙ ap (λ (z : ℤ). pos (level_of o2 z)) (to_z-of_z c.before.before.ranges.amount)
+    c.oxygen_level.ensures ∙ ap (λ (z : ℤ). pos (level_of o2 z)) (to_z-of_z c.before.before.ranges.amount)
 
 figures : (c : tie.Start) → AirFigures c.args.constant c.args.seconds c.args.saturation
 figures c = air-figures _ _ _ c.requires.0
 
 -- The saturation and the level.
-known : (c : tie.After-oxygen-level)
-    → Bounded (c.before.wide.result ∷ c.oxygen-level.result ∷ []) (most_saturation ∷ most_level ∷ [])
+known : (c : tie.After-oxygen_level)
+    → Bounded (c.before.wide.result ∷ c.oxygen_level.result ∷ []) (most_saturation ∷ most_level ∷ [])
 known c =
     let start = c.before.before in
     let saturation : nat_abs c.before.wide.result ≤ most_saturation =
     rw c.before.wide.ensures (figures start).most in
-    let level : nat_abs c.oxygen-level.result ≤ most_level =
+    let level : nat_abs c.oxygen_level.result ≤ most_level =
     rw (level-is c) (level_bound o2 start.args.amount start.requires.1) in
     saturation & level & all
 
 -- The part that is exchanged, the saturation and the level.
-all_known : (c : tie.After-exchanged-part)
-    → Bounded (c.exchanged-part.result ∷ c.before.before.wide.result ∷ c.before.oxygen-level.result ∷ [])
+all_known : (c : tie.After-exchanged_part)
+    → Bounded (c.exchanged_part.result ∷ c.before.before.wide.result ∷ c.before.oxygen_level.result ∷ [])
     (833333333 ∷ most_saturation ∷ most_level ∷ [])
 all_known c =
     let f = figures c.before.before.before in
-    let part : nat_abs c.exchanged-part.result ≤ 833333333 =
-    rw c.exchanged-part.ensures (exchanged_bound _ _ f.constant f.time) in
+    let part : nat_abs c.exchanged_part.result ≤ 833333333 =
+    rw c.exchanged_part.ensures (exchanged_bound _ _ f.constant f.time) in
     part & known c.before
 
 -- The difference times the part, in billionths, and the µg that are exchanged, by what the calls answered.
-abbrev product : tie.After-exchanged-part → ℤ
-product c = (c.before.before.wide.result -ℤ c.before.oxygen-level.result) *ℤ c.exchanged-part.result
+abbrev product : tie.After-exchanged_part → ℤ
+product c = (c.before.before.wide.result -ℤ c.before.oxygen_level.result) *ℤ c.exchanged_part.result
 
-abbrev moved : tie.After-exchanged-part → ℤ
+abbrev moved : tie.After-exchanged_part → ℤ
 moved c = quot_z (product c) (pos 1000000000)
 
-moved_known : (c : tie.After-exchanged-part) → Bounded (moved c ∷ []) (870054616 ∷ [])
+moved_known : (c : tie.After-exchanged_part) → Bounded (moved c ∷ []) (870054616 ∷ [])
 moved_known c =
     let most = abs_under (all_known c) ((v 1 ⊖ v 2) ⊗ v 0) 870054616318644820 tt in
     let small : nat_abs (moved c) ≤ 870054616 = omega (arith, abs_quot (product c) 1000000000) in
     small & all
 
-div_result : tie.Need-nonzero-div-result
+div_result : tie.Need-nonzero_div-result
 div_result c = rw (ran (all_known c) ((v 1 ⊖ v 2) ⊗ v 0) tt) (lit< tt, fit (moved_known c) (v 0) tt)
 
-mul_result_2 : tie.Need-overflow-mul-result-2
+mul_result_2 : tie.Need-overflow_mul-result-2
 mul_result_2 c =
     rw (ran (all_known c) ((v 1 ⊖ v 2) ⊗ v 0) tt) (asked (moved_known c) (v 0 ⊗ # (pos grains_per_microgram_o)) tt)
 
@@ -78,7 +78,7 @@ returns c =
       ran (moved_known c) (v 0 ⊗ # (pos grains_per_microgram_o)) tt,
       c.before.before.wide.ensures,
       level-is c.before,
-      c.exchanged-part.ensures,
+      c.exchanged_part.ensures,
     )
 
 pub gain_of_spec : {M : Type 1} → statement M

@@ -8,7 +8,7 @@ use borrow.Author.Rules.{rules}
 use Rattle.transport.proofs.flow.move_amounts.Statement.{statement}
 use Rattle.transport.proofs.flow.move_amounts.Tie as tie
 
-add_came_requires : tie.Need-add-came-requires
+add_came_requires : tie.Need-add_came-requires
 add_came_requires c κs =
     let at_left = c.before in
     let start = at_left.before.before in
@@ -23,7 +23,7 @@ returns c =
     let at_left = c.before.before in
     let start = at_left.before.before in
     let args = start.args in
-    c.add-came.ensures
+    c.add_came.ensures
     ∙ ap (λ (l : List ℤ). joined_of args.cells l args.left.now) at_left.take_left.ensures
     ∙ joined_moved args.cells args.amounts.now args.left.now start.requires.0.2 start.requires.0.0
     start.requires.0.1

@@ -16,7 +16,7 @@ parts m w = ap nat_abs (quot_split (pos m) w 10000 (lit< tt))
 times_le : (m w : ℕ) → w ≤ 10000 → m * w ≤ m * 10000
 times_le m w h = mul-le-mul_left m h
 
-add_result : tie.Need-overflow-add-result
+add_result : tie.Need-overflow_add-result
 add_result c =
     omega (arith, parts c.args.size c.args.part, times_le c.args.size c.args.part c.requires)
 

@@ -28,23 +28,23 @@ negated_non_neg : (z : ℤ) → z <ℤ pos 0 → T (non_neg (neg_ℤ z))
 negated_non_neg (pos n) h = absurd (omega (arith, below_of (pos n ∷ []) (v 0) (# (pos 0)) h))
 negated_non_neg (negsuc n) h = tt
 
-below : (c : tie.Then1) → c.before.args.amount <ℤ pos 0
-below c = bits_lt c.before.ranges.amount (sfits_lit {z = pos 0} tt) c.if1.true
+below : (c : tie.Then-amount-lt0) → c.before.args.amount <ℤ pos 0
+below c = bits_lt c.before.ranges.amount (sfits_lit {z = pos 0} tt) c.if-amount-lt0.true
 
-above : (c : tie.Else1) → pos 0 ≤ℤ c.before.args.amount
-above c = bits_nlt c.before.ranges.amount (sfits_lit {z = pos 0} tt) c.if1.false
+above : (c : tie.Else-amount-lt0) → pos 0 ≤ℤ c.before.args.amount
+above c = bits_nlt c.before.ranges.amount (sfits_lit {z = pos 0} tt) c.if-amount-lt0.false
 
 -- What `part_of` answered, and that the part of the size fits.
 abbrev part : tie.Start → ℕ
 part c = share c.args.part (nat_abs c.args.amount)
 
-part_below : (c : tie.After-part-of) → c.part_of.result ≡ part c.before.before
+part_below : (c : tie.After-part_of) → c.part_of.result ≡ part c.before.before
 part_below c =
     let at_start = c.before.before in
     c.part_of.ensures ∙ rw (ran (known at_start) (⊝ (v 0)) tt, abs_neg at_start.args.amount)
 
-part_above : (c : tie.After-part-of2) → c.part-of2.result ≡ part c.before.before
-part_above c = c.part-of2.ensures ∙ rw (to_z-of_z c.before.before.ranges.amount)
+part_above : (c : tie.After-part_of-2) → c.part_of-2.result ≡ part c.before.before
+part_above c = c.part_of-2.ensures ∙ rw (to_z-of_z c.before.before.ranges.amount)
 
 part-fits : (c : tie.Start) → part c < 2 ^ 63
 part-fits c = omega (arith, share_le c.args.part (nat_abs c.args.amount) c.requires.0)
@@ -54,14 +54,14 @@ minus_fits c =
     let negated = neg_ℤ (pos (part c)) in
     rw (+ℤ_idl negated) (fits_abs negated (omega (arith, abs_neg (pos (part c)), part-fits c)))
 
-cast_part_of : tie.Need-overflow-cast-part-of
+cast_part_of : tie.Need-overflow_cast-amount
 cast_part_of c =
     let amount = c.before.args.amount in
     let back = ran (known c.before) (⊝ (v 0)) tt in
     (rw back (negated_non_neg amount (below c)), rw back (omega (arith, abs_neg amount)))
 
 -- Below zero.
-returns : tie.Need-returns
+returns : tie.Need-returns-then-amount-lt0
 returns c =
     let start = c.before.before in
     rw (
@@ -72,13 +72,13 @@ returns c =
       passing_below start.args.part start.args.amount (below c.before),
     )
 
-cast_part_of_2 : tie.Need-overflow-cast-part-of-2
+cast_part_of_2 : tie.Need-overflow_cast-amount-2
 cast_part_of_2 c =
     let back = to_z-of_z c.before.ranges.amount in
     (rw back (yes_non_neg (above c)), rw back (omega arith))
 
 -- From zero on.
-returns_2 : tie.Need-returns-2
+returns_2 : tie.Need-returns
 returns_2 c =
     let start = c.before.before in
     rw (

@@ -13,54 +13,54 @@ use Rattle.numeric.proofs.Machine.{kept}
 use Rattle.numeric.proofs.Filling.{run_none, run_more, run_beyond}
 use Rattle.stoichiometry.specs.Substances.{substances}
 use Rattle.river.specs.Rivers.{most_cells}
-use Rattle.transport.specs.Inner.Stages.{AmountsWithin, staying}
+use Rattle.transport.specs.Inner.Stages.{staying}
 use Rattle.transport.proofs.flow.take_left.Statement.{statement}
 use Rattle.transport.proofs.flow.take_left.Tie as tie
 
-abbrev invariant-loop : tie.invariant-loop
+abbrev invariant-loop : tie.invariant-loop-k
 invariant-loop amounts₀ left k₀ amounts k =
     (k ≤ most_cells * substances) × (amounts ≡ run amounts₀ 0 k (staying amounts₀ left))
 
-abbrev decreases-loop : tie.decreases-loop
+abbrev decreases-loop : tie.decreases-loop-k
 decreases-loop amounts₀ left k₀ amounts k = most_cells * substances - k
 
 -- The amount at k is the one before.
-still : (c : tie.At-loop invariant-loop decreases-loop)
-    → get_or c.loop.amounts c.loop.k (pos 0) ≡ get_or c.before.args.amounts.now c.loop.k (pos 0)
+still : (c : tie.At-loop-k invariant-loop decreases-loop)
+    → get_or c.loop-k.amounts c.loop-k.k (pos 0) ≡ get_or c.before.args.amounts.now c.loop-k.k (pos 0)
 still c =
-    ap (λ l. get_or l c.loop.k (pos 0)) c.loop.invariant.1
-    ∙ run_beyond c.before.args.amounts.now 0 c.loop.k _ c.loop.k (pos 0) (omega arith)
+    ap (λ l. get_or l c.loop-k.k (pos 0)) c.loop-k.invariant.1
+    ∙ run_beyond c.before.args.amounts.now 0 c.loop-k.k _ c.loop-k.k (pos 0) (omega arith)
 
 less_requires : tie.Need-less-requires invariant-loop decreases-loop
 less_requires c κs =
     let at_loop = c.before.before.before in
     let handed = at_loop.before.requires in
-    let k = at_loop.loop.k in (
-      rw (to_z-of_z (sfits_of c.before.less-arg.given), still at_loop) (handed.0.small k (omega arith)),
-      rw (to_z-of_z (sfits_of c.less-arg2.given)) (handed.1.small k (omega arith)),
+    let k = at_loop.loop-k.k in (
+      rw (to_z-of_z (sfits_of c.before.less-arg-1.given), still at_loop) (handed.0.small k (omega arith)),
+      rw (to_z-of_z (sfits_of c.less-arg-in-loop-k-1.given)) (handed.1.small k (omega arith)),
     )
 
-loop_again : tie.Need-loop-preserved invariant-loop decreases-loop
+loop_again : tie.Need-loop-k-preserved invariant-loop decreases-loop
 loop_again c =
     let at_loop = c.before.before.before.before in
-    let k = at_loop.loop.k in
+    let k = at_loop.loop-k.k in
     let value = kept c.less.result in (
       omega arith,
-      ap (λ (i : ℕ). set at_loop.loop.amounts i value) (sym (zero-add k))
-          ∙ run_more _ 0 k _ at_loop.loop.amounts value at_loop.loop.invariant.1
+      ap (λ (i : ℕ). set at_loop.loop-k.amounts i value) (sym (zero-add k))
+          ∙ run_more _ 0 k _ at_loop.loop-k.amounts value at_loop.loop-k.invariant.1
           (rw (
-            to_z-of_z (sfits_of c.less.type-inv),
+            to_z-of_z (sfits_of c.less.type_inv),
             c.less.ensures,
-            to_z-of_z (sfits_of c.before.before.less-arg.given),
-            to_z-of_z (sfits_of c.before.less-arg2.given),
+            to_z-of_z (sfits_of c.before.before.less-arg-1.given),
+            to_z-of_z (sfits_of c.before.less-arg-in-loop-k-1.given),
             still at_loop,
           )),
     )
 
 returns : tie.Need-returns invariant-loop decreases-loop
 returns c =
-    let all : c.before.loop.k ≡ most_cells * substances = omega arith in
-    rw all at c.before.loop.invariant.1
+    let all : c.before.loop-k.k ≡ most_cells * substances = omega arith in
+    rw all at c.before.loop-k.invariant.1
 
 pub take_left_spec : {M : Type 1} → statement M
 take_left_spec =
