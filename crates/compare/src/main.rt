@@ -15,9 +15,11 @@ mod set;
 mod tally;
 mod write;
 
-fn main() {
-    let read = reading::all();
+use std::io;
+
+fn main(rt: HostRuntime) -> io::Result<()> {
+    let read = reading::all(&rt)?;
     let scene = read.scene;
     let tally = scene.tally;
-    write::write_table(tally);
+    write::write_table(&rt, tally)
 }

@@ -1,9 +1,12 @@
 // Standard input, read in blocks, each byte once.
 use crate::line::Line;
 use crate::scene::Scene;
-use libc::STDIN_FILENO;
+use std::io::Result;
+use streams::read_full;
 
-// The most blocks of 65,536 bytes that are read; what stands after them is not.
+const BLOCK: usize = 65536;
+
+// The most blocks that are read; what stands after them is not.
 const BLOCKS: u32 = 1000;
 
 // The scene after the lines so far, and the line that is not at its end. A last line with no line feed makes no call.
@@ -40,21 +43,21 @@ fn with_bytes(before: Read, bytes: &[u8]) -> Read {
     read
 }
 
-fn with_block(before: Read) -> Read {
-    let mut buffer = io::large_buffer();
-    let n = io::read_full(STDIN_FILENO, &mut buffer);
-    with_bytes(before, &buffer[..n])
+fn with_block(rt: &impl Input, before: Read) -> Result<Read> {
+    let mut buffer = [0; BLOCK];
+    let n = read_full(&mut rt.reader(), &mut buffer)?;
+    Ok(with_bytes(before, &buffer[..n]))
 }
 
-pub(crate) fn all() -> Read {
+pub(crate) fn all(rt: &impl Input) -> Result<Read> {
     let mut read = Read {
         scene: Scene::new(),
         line: Line::new(),
     };
     let mut turns = 0;
     while turns < BLOCKS {
-        read = with_block(read);
+        read = with_block(rt, read)?;
         turns += 1;
     }
-    read
+    Ok(read)
 }

@@ -2,15 +2,16 @@
 ghost use Rattle.std.specs.Prelude.{◌≤◌};
 
 use crate::tally::{Difference, KINDS, NUMBERS, Tally};
-use libc::STDOUT_FILENO;
+use std::io::Result;
 
 // Bytes of a text from one place to another, where they are all there.
-fn write_part(text: &[u8], start: usize, end: usize) {
+fn write_part(rt: &impl Print, text: &[u8], start: usize, end: usize) -> Result<()> {
     if start <= end {
         if end <= text.len() {
-            io::write_all(STDOUT_FILENO, &text[start..end]);
+            return rt.write_all(&text[start..end]);
         }
     }
+    Ok(())
 }
 
 // How many digits a number has; 7 where it has more.
@@ -29,38 +30,41 @@ fn digits(n: u64) -> usize
 }
 
 // A number in seven columns.
-fn write_column(n: u64) {
-    write_part(b"       ", digits(n), 7);
-    io::print_decimal(STDOUT_FILENO, n);
+fn write_column(rt: &impl Print, n: u64) -> Result<()> {
+    write_part(rt, b"       ", digits(n), 7)?;
+    rt.print(n)
 }
 
 // The name of a kind in nine columns.
-fn write_kind(kind: usize) {
+fn write_kind(rt: &impl Print, kind: usize) -> Result<()> {
     if kind < 7 {
         let at = kind * 9;
         write_part(
+            rt,
             b"set      rows     publishedfresh    load     flow     air      ",
             at,
             at + 9,
-        );
+        )?;
     } else if kind < KINDS {
         let at = (kind - 7) * 9;
         write_part(
+            rt,
             b"step     totals   letter   frame    write    read     lines    page     ",
             at,
             at + 9,
-        );
+        )?;
     }
+    Ok(())
 }
 
-fn write_head() {
-    io::write_all(STDOUT_FILENO, b"call     ");
+fn write_head(rt: &impl Print) -> Result<()> {
+    rt.write_all(b"call     ")?;
     let mut number = 0;
     while number < NUMBERS {
-        write_column(number as u64);
+        write_column(rt, number as u64)?;
         number += 1;
     }
-    io::write_all(STDOUT_FILENO, b"    all  equal\n");
+    rt.write_all(b"    all  equal\n")
 }
 
 // Counts do not reach the limit, so no sum stops there.
@@ -69,72 +73,72 @@ fn sum(a: u64, b: u64) -> u64 {
 }
 
 // Writes the counts of a kind and answers their sum.
-fn write_counts(tally: Tally, kind: usize) -> u64 {
+fn write_counts(rt: &impl Print, tally: Tally, kind: usize) -> Result<u64> {
     let mut calls = 0;
     let mut number = 0;
     while number < NUMBERS {
         let count = tally.count(kind, number);
-        write_column(count);
+        write_column(rt, count)?;
         calls = sum(calls, count);
         number += 1;
     }
-    calls
+    Ok(calls)
 }
 
-fn write_row(tally: Tally, kind: usize) -> u64 {
-    write_kind(kind);
-    let calls = write_counts(tally, kind);
-    write_column(calls);
-    write_column(tally.equals(kind));
-    io::write_all(STDOUT_FILENO, b"\n");
-    calls
+fn write_row(rt: &impl Print, tally: Tally, kind: usize) -> Result<u64> {
+    write_kind(rt, kind)?;
+    let calls = write_counts(rt, tally, kind)?;
+    write_column(rt, calls)?;
+    write_column(rt, tally.equals(kind))?;
+    rt.write_all(b"\n")?;
+    Ok(calls)
 }
 
 // A text, and a number after it.
-fn write_after(text: &[u8], n: u64) {
-    io::write_all(STDOUT_FILENO, text);
-    io::print_decimal(STDOUT_FILENO, n);
+fn write_after(rt: &impl Print, text: &[u8], n: u64) -> Result<()> {
+    rt.write_all(text)?;
+    rt.print(n)
 }
 
-fn write_first(first: Difference) {
+fn write_first(rt: &impl Print, first: Difference) -> Result<()> {
     let letter = [first.letter];
     let expected = first.expected;
     let got = first.got;
-    write_after(b"first difference: line ", first.line);
-    io::write_all(STDOUT_FILENO, b", kind ");
-    io::write_all(STDOUT_FILENO, &letter);
-    write_after(b", expected ", expected.number);
-    write_after(b" with ", expected.digest);
-    write_after(b", got ", got.number);
-    write_after(b" with ", got.digest);
-    io::write_all(STDOUT_FILENO, b"\n");
+    write_after(rt, b"first difference: line ", first.line)?;
+    rt.write_all(b", kind ")?;
+    rt.write_all(&letter)?;
+    write_after(rt, b", expected ", expected.number)?;
+    write_after(rt, b" with ", expected.digest)?;
+    write_after(rt, b", got ", got.number)?;
+    write_after(rt, b" with ", got.digest)?;
+    rt.write_all(b"\n")
 }
 
-fn write_difference(first: Difference) {
+fn write_difference(rt: &impl Print, first: Difference) -> Result<()> {
     if first.line == 0 {
-        io::write_all(STDOUT_FILENO, b"no difference\n");
+        rt.write_all(b"no difference\n")
     } else {
-        write_first(first);
+        write_first(rt, first)
     }
 }
 
-fn write_sums(calls: u64, equal: u64) {
-    io::print_decimal(STDOUT_FILENO, calls);
-    write_after(b" calls, ", equal);
-    io::write_all(STDOUT_FILENO, b" equal\n");
+fn write_sums(rt: &impl Print, calls: u64, equal: u64) -> Result<()> {
+    rt.print(calls)?;
+    write_after(rt, b" calls, ", equal)?;
+    rt.write_all(b" equal\n")
 }
 
-pub(crate) fn write_table(tally: Tally) {
-    write_head();
+pub(crate) fn write_table(rt: &impl Print, tally: Tally) -> Result<()> {
+    write_head(rt)?;
     let mut calls = 0;
     let mut equal = 0;
     let mut kind = 0;
     while kind < KINDS {
-        calls = sum(calls, write_row(tally, kind));
+        calls = sum(calls, write_row(rt, tally, kind)?);
         equal = sum(equal, tally.equals(kind));
         kind += 1;
     }
-    write_sums(calls, equal);
+    write_sums(rt, calls, equal)?;
     let first = tally.first;
-    write_difference(first);
+    write_difference(rt, first)
 }

@@ -4,8 +4,6 @@
 // call.
 #![tactic(auto)]
 
-use libc::{STDIN_FILENO, STDOUT_FILENO};
-
 mod calls;
 mod checksum;
 mod frames;
@@ -15,11 +13,16 @@ mod rivers;
 mod sets;
 mod turns;
 
-fn main() {
-    let mut text = io::buffer();
-    let n = io::read_full(STDIN_FILENO, &mut text);
+use std::io;
+use streams::read_full;
+
+// The most bytes of standard input that are read.
+const MOST: usize = 4096;
+
+fn main(rt: HostRuntime) -> io::Result<()> {
+    let mut text = [0; MOST];
+    let n = read_full(&mut rt.reader(), &mut text)?;
     let asked = order::order_of(&text[..n]);
     let sum = calls::checksum_of(asked);
-    io::print_decimal(STDOUT_FILENO, sum);
-    io::write_all(STDOUT_FILENO, b"\n");
+    rt.println(sum)
 }

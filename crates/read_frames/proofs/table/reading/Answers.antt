@@ -6,9 +6,7 @@ use native.Mathlib.Omega.{arith}
 use lib.Dec.{T, eqb}
 use lib.Ieee.{binary32, nan_bits}
 use borrow.Author.Tests.{eqb-true, eq-eqb}
-use borrow.Author.Rules.{rules}
-use Rattle.compare.proofs.frames.reading.Statement.{statement}
-use Rattle.compare.proofs.frames.reading.Tie as tie
+use Rattle.read_frames.proofs.table.reading.Goals as goal
 
 no_nan : (b : ℕ) → b % 2147483648 ≤ 2139095040 → T (not (nan_bits binary32 b))
 unfolding nan_bits
@@ -21,14 +19,5 @@ no_nan b h = by_field (eqb (b % 2147483648 / 8388608) 255) refl
         let zero : b % 8388608 ≡ 0 = omega arith in
         subst (λ (s : Bool). T (not (not s))) (sym (eq-eqb (b % 8388608) 0 zero)) tt
 
-float_from_bits_result : tie.Need-float-from-bits-result
-float_from_bits_result c = no_nan c.before.args.bits c.if1.false
-
-returns : tie.Need-returns
-returns c = search rules
-
-returns_2 : tie.Need-returns-2
-returns_2 c = search rules
-
-pub reading_spec : {M : Type 1} → statement M
-reading_spec = tie.close (tie.spec float_from_bits_result returns returns_2)
+pub float_from_bits-result : goal.float_from_bits-result
+float_from_bits-result c = no_nan c.args.bits c.if-bits-gt-INFINITY.false
