@@ -5,7 +5,7 @@ between two names that are definitions themselves, types and modules in camel ca
 usage: tools/respell.py [--check] [REPOSITORY]
 
 It rewrites crates/*/{specs,proofs,src,must-fail} and the pages of docs/ and README.md. With --check it only prints the
-table of names and what falls together. A second run changes nothing.
+table of names and what falls together. Run it once, after port.py: it does not know the names of goals that proofs answer.
 """
 
 import glob

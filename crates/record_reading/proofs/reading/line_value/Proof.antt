@@ -11,11 +11,6 @@ use borrow.Author.Rules.{rules}
 use Rattle.record_reading.proofs.reading.line_value.Statement.{statement}
 use Rattle.record_reading.proofs.reading.line_value.Tie as tie
 
-returns : tie.Need-returns-then-text-at-ne10
-returns c =
-    let start = c.before.before.before.before in
-    c.no_value.ensures ∙ sym (end_refused _ _ start.requires _ _ _ _ c.before.if-text-at-ne10.true)
-
 returns_2 : tie.Need-returns-then-front_right
 returns_2 c =
     let then = c.before.before in
@@ -28,7 +23,7 @@ returns_2 c =
     let columns = ap (λ (n : ℕ). take n (drop (args.at + 6) args.text.now)) width in
     c.read_decimal.ensures
     ∙ (λ i. parse (to_z-of_z start.ranges.lowest i) (to_z-of_z start.ranges.highest i) (columns i))
-    ∙ sym (line_read args.text.now args.at start.requires _ _ _ _ front feed.if-text-at-ne10.false)
+    ∙ sym (line_read args.text.now args.at start.requires _ _ _ _ front (omega arith))
 
 returns_3 : tie.Need-returns
 returns_3 c =
@@ -42,7 +37,10 @@ line_value_spec =
     tie.close
     (tie.spec
     (λ c. search rules) (λ c. search rules) (λ c κs. search rules)
-    returns
+    -- No line feed.
+    (λ c.
+    let start = c.before.before.before.before in
+    c.no_value.ensures ∙ sym (end_refused _ _ start.requires _ _ _ _ (λ e. omega arith)))
     (λ c κs. search rules) (λ c. search rules) (λ c. search rules) (λ c. search rules) (λ c. search rules)
     (λ c. search rules) (λ c κs. search rules)
     returns_2

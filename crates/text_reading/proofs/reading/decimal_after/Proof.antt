@@ -23,22 +23,12 @@ returns_2 c =
     let at_zero = c.before.before in
     c.none-then-start-end-2.ensures ∙ sym (zeros-none _ _ _ _ _ (begun at_zero).requires (omega arith) at_zero.if-columns-start-eq48.true)
 
--- A zero alone.
-returns_3 : tie.Need-returns-then-mark-eq32
-returns_3 c =
-    let at_zero = c.before.before.before in
-    let at_start = begun at_zero in
-    c.within.ensures
-    ∙ ap₂ (λ (l h : ℤ). within l h (pos 0)) (to_z-of_z at_start.ranges.lowest) (to_z-of_z at_start.ranges.highest)
-    ∙ sym
-    (zero_read _ _ _ _ _ at_start.requires (omega arith) (omega arith) at_zero.if-columns-start-eq48.true c.before.if-mark-eq32.true)
-
 -- A zero after a minus.
 returns_4 : tie.Need-returns-then-columns-start-eq48
 returns_4 c =
     let at_zero = c.before.before.before in
     c.none-then-columns-start-eq48.ensures
-    ∙ sym (minus_zero_none _ _ _ _ _ (begun at_zero).requires (omega arith) at_zero.if-columns-start-eq48.true c.before.if-mark-eq32.false)
+    ∙ sym (minus_zero_none _ _ _ _ _ (begun at_zero).requires (omega arith) at_zero.if-columns-start-eq48.true (λ e. omega arith))
 
 -- No zero.
 returns_5 : tie.Need-returns
@@ -58,7 +48,13 @@ decimal_after_spec =
     (λ c. search rules) (λ c. search rules) (λ c κs. search rules)
     returns_2
     (λ c κs. search rules)
-    returns_3
+    -- A zero alone.
+    (λ c.
+    let at_zero = c.before.before.before in
+    let at_start = begun at_zero in
+    c.within.ensures
+    ∙ ap₂ (λ (l h : ℤ). within l h (pos 0)) (to_z-of_z at_start.ranges.lowest) (to_z-of_z at_start.ranges.highest)
+    ∙ sym (zero_read _ _ _ _ _ at_start.requires (omega arith) (omega arith) at_zero.if-columns-start-eq48.true (omega arith)))
     (λ c κs. search rules)
     returns_4
     (λ c κs. search rules)
