@@ -17,10 +17,10 @@ use std::io;
 use streams::read_full;
 
 // The most bytes of standard input that are read.
-const MOST: usize = 4096;
+const READ_MOST: usize = 4096;
 
 fn main(rt: HostRuntime) -> io::Result<()> {
-    let mut text = [0; MOST];
+    let mut text = [0; READ_MOST];
     let n = read_full(&mut rt.reader(), &mut text)?;
     let asked = order::order_of(&text[..n]);
     let sum = calls::checksum_of(asked);
