@@ -15,7 +15,7 @@ use Rattle.numeric.proofs.Comparison.{lt_lt_z}
 use Rattle.stoichiometry.specs.declared.Set.{Set}
 use Rattle.stoichiometry.specs.Substances.{substances, nh4, hpo4, place}
 use Rattle.stoichiometry.specs.Rows.{processes, entry, released, processes_of, process_at, row, row_entry, rows_of}
-use Rattle.stoichiometry.proofs.Balance.{get_d_rows}
+use Rattle.stoichiometry.proofs.Balance.{get_or_rows}
 use Rattle.kinetics.specs.Rates.{takes_phosphate, takes_nitrogen}
 
 -- A number times a positive one has its sign.
@@ -39,9 +39,9 @@ takes_nitrogen-is set =
 pub takes_nitrogen-row : (set : Set)
     → takes_nitrogen set ≡ lt_z (get_or (rows_of set) (0 * substances + place nh4) (pos 0)) (pos 0)
 takes_nitrogen-row set =
-    takes_nitrogen-is set ∙ sym (ap (λ (z : ℤ). lt_z z (pos 0)) (get_d_rows set 0 (place nh4) (lit< tt) (lit< tt)))
+    takes_nitrogen-is set ∙ sym (ap (λ (z : ℤ). lt_z z (pos 0)) (get_or_rows set 0 (place nh4) (lit< tt) (lit< tt)))
 
 pub takes_phosphate-row : (set : Set) (p : ℕ) → p < processes
     → takes_phosphate set p ≡ lt_z (get_or (rows_of set) (p * substances + place hpo4) (pos 0)) (pos 0)
 unfolding takes_phosphate
-takes_phosphate-row set p h = sym (ap (λ (z : ℤ). lt_z z (pos 0)) (get_d_rows set p (place hpo4) h (lit< tt)))
+takes_phosphate-row set p h = sym (ap (λ (z : ℤ). lt_z z (pos 0)) (get_or_rows set p (place hpo4) h (lit< tt)))

@@ -144,8 +144,8 @@ fn write_cell(out: &mut [u8], c: usize, amounts: &[i64; AMOUNTS])
 
 // The rows of the first n cells.
 pub(crate) fn write_rows(out: &mut [u8], n: usize, amounts: &[i64; AMOUNTS])
-    requires n_le_most_cells { (n ≤ most_cells) × (n * row_bytes ≤ length out.old) }
-    requires by_index { (c : ℕ) → c < n → CellFits amounts.now c }
+    requires room { (n ≤ most_cells) × (n * row_bytes ≤ length out.old) }
+    requires cells_fit { (c : ℕ) → c < n → CellFits amounts.now c }
     ensures { out.new ≡ put out.old 0 (blocks n (row_of amounts.now)) }
 {
     let mut c = 0;

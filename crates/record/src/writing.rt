@@ -85,8 +85,8 @@ fn write_cell(
     amounts: &[i64; AMOUNTS],
     carries: &[u32; CARRIES],
 )
-    requires c_lt_most_cells { (c < most_cells) × (c * cell_bytes + cell_bytes ≤ length out.old) }
-    requires labels_value { labels.now ≡ line_labels lines }
+    requires room { (c < most_cells) × (c * cell_bytes + cell_bytes ≤ length out.old) }
+    requires labels { labels.now ≡ line_labels lines }
     ensures { out.new ≡ cell_put out.old amounts.now carries.now c }
 {
     let start = c * Record::CELL_BYTES;

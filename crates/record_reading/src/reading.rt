@@ -127,9 +127,9 @@ pub(crate) fn read_cells(
     amounts: &mut [i64; AMOUNTS],
     carries: &mut [u32; CARRIES],
 ) -> bool
-    requires n_le_most_cells { (n ≤ most_cells) × (n * cell_bytes ≤ length text.now) }
-    requires amounts_value { amounts.old ≡ replicate (most_cells * substances) (pos 0) }
-    requires carries_value { carries.old ≡ replicate (most_cells * processes) 0 }
+    requires cells_in_text { (n ≤ most_cells) × (n * cell_bytes ≤ length text.now) }
+    requires no_amounts { amounts.old ≡ replicate (most_cells * substances) (pos 0) }
+    requires no_carries { carries.old ≡ replicate (most_cells * processes) 0 }
     ensures value { result ≡ lines_right n text.now }
     ensures amounts_after { result ≡ true → amounts.new ≡ amounts_in n text.now }
     ensures carries_after { result ≡ true → carries.new ≡ carries_in n text.now }

@@ -91,8 +91,8 @@ fn joined(amounts: &[i64; AMOUNTS], start: usize, count: usize) -> i64
 // As `each_amount_fits`, by one test, for substances that have the same bounds, from 0 on: true only where each amount
 // fits. Joined bits may be past the most where no amount is, so false tells nothing.
 fn run_fits(amounts: &[i64; AMOUNTS], start: usize, first: usize, end: usize) -> bool
-    requires substances_bound { (start + substances ≤ most_cells * substances) × (first < end) × (end ≤ substances) }
-    requires end_value { same_bounds first end ≡ true }
+    requires places { (start + substances ≤ most_cells * substances) × (first < end) × (end ≤ substances) }
+    requires same_bounds { same_bounds first end ≡ true }
     ensures { result ≡ true → RunFits amounts.now start first end }
 {
     amount_fits(first, joined(amounts, start + first, end - first))

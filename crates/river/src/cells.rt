@@ -9,8 +9,8 @@ use stoichiometry::Set;
 
 // The level, µg, of an amount in grains, rounded down; weight: grains in one µg.
 fn level(amount: i64, weight: u64) -> u64
-    requires pos_bound { pos 0 ≤ℤ amount }
-    requires weight_nonzero { 0 < weight }
+    requires amount_not_negative { pos 0 ≤ℤ amount }
+    requires weight_not_zero { 0 < weight }
     ensures { result ≡ nat_abs amount / weight }
 {
     amount as u64 / weight
@@ -18,8 +18,8 @@ fn level(amount: i64, weight: u64) -> u64
 
 // The letter by the amounts of O2 and NH4, grains.
 pub(crate) fn letter(oxygen: i64, ammonium: i64) -> u8
-    requires pos_bound { pos 0 ≤ℤ oxygen }
-    requires pos_bound_2 { pos 0 ≤ℤ ammonium }
+    requires oxygen_not_negative { pos 0 ≤ℤ oxygen }
+    requires ammonium_not_negative { pos 0 ≤ℤ ammonium }
     ensures { result ≡ letter_by (level_of o2 oxygen) (level_of nh4 ammonium) }
 {
     letter_by(

@@ -14,7 +14,7 @@ use Rattle.stoichiometry.specs.declared.Set.{Set}
 use Rattle.stoichiometry.specs.Rows.{processes, Asked, consumes_o2, takes_up_nothing, unasked, no_process, oxygen_change, processes_of, process_at, rows_of}
 use Rattle.stoichiometry.specs.Sets.{asked_met, rows_wrong}
 use Rattle.rows.specs.Inner.Code.{asked_number, asked_numbers, oxygen_of, asked_of, wrong_of}
-use Rattle.stoichiometry.proofs.Balance.{get_d_rows}
+use Rattle.stoichiometry.proofs.Balance.{get_or_rows}
 
 asked_at : (set : Set) (p : ℕ) → get_or (asked_numbers set) p 0 ≡ asked_number (process_at set p).asked
 unfolding asked_numbers process_at
@@ -28,10 +28,10 @@ met_is set p consumes_o2 h =
     ap (λ (e : ℤ). lt_z e (pos 0)) (get_or-tab processes (λ k. oxygen_change set (process_at set k)) p (pos 0) h)
 met_is set p takes_up_nothing h =
     rw (
-      get_d_rows set p 2 h (lit< tt),
-      get_d_rows set p 5 h (lit< tt),
-      get_d_rows set p 6 h (lit< tt),
-      get_d_rows set p 7 h (lit< tt),
+      get_or_rows set p 2 h (lit< tt),
+      get_or_rows set p 5 h (lit< tt),
+      get_or_rows set p 6 h (lit< tt),
+      get_or_rows set p 7 h (lit< tt),
     )
 met_is set p unasked h = refl
 

@@ -17,7 +17,7 @@ use Rattle.numeric.proofs.SumLaws.{sum_eq}
 use Rattle.numeric.proofs.TableLaws.{get_or-tab}
 use Rattle.stoichiometry.specs.declared.Set.{Set}
 use Rattle.stoichiometry.specs.Rows.{processes, rows_of}
-use Rattle.stoichiometry.proofs.Balance.{get_d_rows}
+use Rattle.stoichiometry.proofs.Balance.{get_or_rows}
 use Rattle.stoichiometry.specs.Substances.{substances}
 use Rattle.kinetics.specs.declared.Conditions.{Conditions}
 use Rattle.river.specs.declared.River.{River}
@@ -75,4 +75,4 @@ module _ (set : Set) (conditions : Conditions) (r : River) (right : river_wrong 
       ∙ grid_eq most_cells substances r.cells (pos 0) _ _ (lit< tt)
       (λ c s h l.
       ap (λ (z : ℤ). get_or r.amounts (c * substances + s) (pos 0) +ℤ z)
-      (sum_eq processes _ _ (λ p k. ap₂ ◌*ℤ◌ (whole_in_cell c p h k) (get_d_rows set p s k l))))
+      (sum_eq processes _ _ (λ p k. ap₂ ◌*ℤ◌ (whole_in_cell c p h k) (get_or_rows set p s k l))))

@@ -30,7 +30,7 @@ pub(crate) fn step_cells<'a>(
 ) -> bool
     requires { StepReady set (river_with cells before.now carries.now) conditions entries.now
         × (amounts.old ≡ zero_amounts) × (rest.old ≡ zero_carries) }
-    ensures carries_value { batches_wrong set conditions (river_with cells before.now carries.now)
+    ensures batches { batches_wrong set conditions (river_with cells before.now carries.now)
         ≡ not result }
     ensures amounts_after { result ≡ true → amounts.new
         ≡ stepped_amounts set conditions (river_with cells before.now carries.now) }

@@ -56,7 +56,7 @@ pub(crate) fn write_mark(out: &mut [u8], at: usize, width: usize, mark: u8)
 
 // A number of at most one digit and its mark in columns that hold blanks. No digit where it is 0.
 fn write_below_10(out: &mut [u8], at: usize, width: usize, mark: u8, n: u32)
-    requires n_bound { (n < 10) × (at + width ≤ length out.old) }
+    requires room { (n < 10) × (at + width ≤ length out.old) }
     requires blank { Blank out.old at width }
     ensures { out.new ≡ put out.old at (columns width mark n) }
 {
@@ -75,7 +75,7 @@ fn write_below_10(out: &mut [u8], at: usize, width: usize, mark: u8, n: u32)
 
 // At most two digits.
 fn write_below_100(out: &mut [u8], at: usize, width: usize, mark: u8, n: u32)
-    requires n_bound { (n < 100) × (at + width ≤ length out.old) }
+    requires room { (n < 100) × (at + width ≤ length out.old) }
     requires blank { Blank out.old at width }
     ensures { out.new ≡ put out.old at (columns width mark n) }
 {
@@ -94,7 +94,7 @@ fn write_below_100(out: &mut [u8], at: usize, width: usize, mark: u8, n: u32)
 
 // At most four digits.
 pub(crate) fn write_below_10000(out: &mut [u8], at: usize, width: usize, mark: u8, n: u32)
-    requires n_bound { (n < 10000) × (at + width ≤ length out.old) }
+    requires room { (n < 10000) × (at + width ≤ length out.old) }
     requires blank { Blank out.old at width }
     ensures { out.new ≡ put out.old at (columns width mark n) }
 {

@@ -58,8 +58,8 @@ last_run : (w m n : ℕ) → run_on start (columns w m (suc n / 10)) ≡ cols m 
 unfolding is_digit
 last_run w m n e l =
     let b = 48 + suc n % 10 in
-    let is_digit : is_digit b ≡ true = rw (le-ltb b 48 (omega arith), lt-ltb b 58 (omega arith)) refl in
-    rw (run_snoc start (columns w m (suc n / 10)) b, e, next-digit m (suc n / 10) b is_digit)
+    let seen : is_digit b ≡ true = rw (le-ltb b 48 (omega arith), lt-ltb b 58 (omega arith)) refl in
+    rw (run_snoc start (columns w m (suc n / 10)) b, e, next-digit m (suc n / 10) b seen)
     (digit_more m (suc n / 10) (b - 48) (λ z. omega arith) l ∙ ap (cols m) (omega arith))
 
 blank_run : (i r : ℕ) → r < 10 ^ i → r / 10 ≤ most → run_on start (columns i 32 r) ≡ cols 32 r

@@ -78,8 +78,8 @@ fn wide(x: u8) -> u64
 
 // The value of two digits.
 fn pair(a: u8, b: u8) -> u64
-    requires le_a { (48 ≤ a) × (a ≤ 57) }
-    requires le_b { (48 ≤ b) × (b ≤ 57) }
+    requires first_digit { (48 ≤ a) × (a ≤ 57) }
+    requires second_digit { (48 ≤ b) × (b ≤ 57) }
     ensures { result ≡ (a - 48) * 10 + (b - 48) }
 {
     wide((a - b'0') * 10 + (b - b'0'))
@@ -103,7 +103,7 @@ pub(crate) fn blanks(columns: &[u8]) -> usize
 // The decimal of columns whose blanks and mark end at `start`, where no zero stands: two digits a turn, then the last.
 fn digits_after(columns: &[u8], start: usize, mark: u8, lowest: i64, highest: i64) -> Decimal
     requires digits_from { DigitsFrom columns.now start mark }
-    requires fact { get_or columns.now start 0 ≡ 48 → ⊥ }
+    requires no_leading_zero { get_or columns.now start 0 ≡ 48 → ⊥ }
     ensures { result ≡ parse lowest highest columns.now }
 {
     let end = columns.len();

@@ -94,7 +94,7 @@ fn weights(set: Set, t: usize) -> [i64; SUBSTANCES]
 
 // The sum of amount × weight over the cell that starts at `start`.
 fn weighted_total(amounts: &[i64; AMOUNTS], start: usize, weights: &[i64; SUBSTANCES]) -> i64
-    requires substances_bound { start + substances ≤ most_cells * substances }
+    requires cell_in_river { start + substances ≤ most_cells * substances }
     requires addable_amounts { AddableAmounts amounts.now start weights.now }
     ensures { result ≡ weighted_total amounts.now start weights.now }
 {
@@ -109,8 +109,8 @@ fn weighted_total(amounts: &[i64; AMOUNTS], start: usize, weights: &[i64; SUBSTA
 
 // Total t of the cell that starts at `start`.
 fn total(set: Set, amounts: &[i64; AMOUNTS], start: usize, t: usize) -> i64
-    requires t_bound { t < 6 }
-    requires substances_bound { start + substances ≤ most_cells * substances }
+    requires total_exists { t < 6 }
+    requires cell_in_river { start + substances ≤ most_cells * substances }
     requires addable_totals { AddableTotals set amounts.now start }
     ensures { result ≡ weighted_total amounts.now start (weights_of set t) }
 {
@@ -119,7 +119,7 @@ fn total(set: Set, amounts: &[i64; AMOUNTS], start: usize, t: usize) -> i64
 }
 
 pub(crate) fn totals_at(set: Set, amounts: &[i64; AMOUNTS], start: usize) -> Totals
-    requires substances_bound { start + substances ≤ most_cells * substances }
+    requires cell_in_river { start + substances ≤ most_cells * substances }
     requires addable_totals { AddableTotals set amounts.now start }
     ensures { result ≡ totals_at set amounts.now start }
 {

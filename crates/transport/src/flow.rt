@@ -73,7 +73,7 @@ fn with(stayed: i64, came: i64) -> i64
 
 // What left a cell comes into the next. Nothing comes into the first cell, nor beyond the last.
 fn add_came(cells: usize, amounts: &mut [i64; AMOUNTS], left: &[i64; AMOUNTS])
-    requires le_cells { (1 ≤ cells) × (cells ≤ most_cells) }
+    requires cells_in_bounds { (1 ≤ cells) × (cells ≤ most_cells) }
     requires amounts_within { AmountsWithin (2 * most_net) amounts.old × AmountsWithin most_net left.now }
     ensures { amounts.new ≡ joined_of cells amounts.old left.now }
 {
@@ -87,7 +87,7 @@ fn add_came(cells: usize, amounts: &mut [i64; AMOUNTS], left: &[i64; AMOUNTS])
 
 // The amounts after: what stayed and what came.
 pub(crate) fn move_amounts(cells: usize, amounts: &mut [i64; AMOUNTS], left: &[i64; AMOUNTS])
-    requires le_cells { (1 ≤ cells) × (cells ≤ most_cells) × (length amounts.old ≡ most_cells * substances) }
+    requires cells_in_bounds { (1 ≤ cells) × (cells ≤ most_cells) × (length amounts.old ≡ most_cells * substances) }
     requires amounts_within { AmountsWithin most_net amounts.old × AmountsWithin most_net left.now }
     ensures { amounts.new ≡ moved_of cells amounts.old left.now }
 {
