@@ -21,14 +21,6 @@ decreases-loop from count to₀ i₀ to i = count - i
 returns : tie.Need-returns-then-from-count invariant-loop decreases-loop
 returns c = sym (copied_refused _ _ _ (rw (lt-leb _ _ c.if-from-count.true) refl))
 
--- `to` is shorter.
-returns_2 : tie.Need-returns-then-to-count invariant-loop decreases-loop
-returns_2 c =
-    let args = c.before.before.args in
-    let first = leb args.count (length args.from.now) in
-    let short : length args.to.now < args.count = omega arith in
-    sym (copied_refused _ _ _ (rw (lt-leb _ _ short) (and-false first)))
-
 loop_again : tie.Need-loop-i-preserved invariant-loop decreases-loop
 loop_again c =
     let at_loop = c.before.before in
@@ -55,7 +47,12 @@ copy_bytes_spec =
     invariant-loop
     decreases-loop
     returns
-    returns_2
+    -- `to` is shorter.
+    (λ c.
+    let args = c.before.before.args in
+    let first = leb args.count (length args.from.now) in
+    let short : length args.to.now < args.count = omega arith in
+    sym (copied_refused _ _ _ (rw (lt-leb _ _ short) (and-false first))))
     (λ c. (omega arith, sym (put-none _ 0), refl))
     (λ c. omega arith) (λ c. omega arith) (λ c. omega arith) (λ c. omega arith)
     loop_again

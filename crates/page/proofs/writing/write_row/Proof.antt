@@ -16,11 +16,6 @@ write_levels_requires c κs =
     let start : tie.Start = search in
     (simp (length-set, length-take, length-drop) (omega arith), start.requires.2)
 
-slice_write_row_5 : tie.Need-bounds-row-64
-slice_write_row_5 c =
-    let called : tie.After-write_levels = search in
-    rw called.write_levels.auto.row (simp (length-set, length-take, length-drop) (omega arith))
-
 returns : tie.Need-returns
 returns c =
     let called : tie.After-write_levels = search in
@@ -43,6 +38,8 @@ write_row_spec =
     (λ c. simp (length-set, length-take, length-drop) (omega arith))
     (λ c. simp (length-set, length-take, length-drop) (omega arith))
     write_levels_requires
-    slice_write_row_5
+    (λ c.
+    let called : tie.After-write_levels = search in
+    rw called.write_levels.auto.row (simp (length-set, length-take, length-drop) (omega arith)))
     (λ c. search rules)
     returns)
