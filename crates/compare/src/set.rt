@@ -4,7 +4,7 @@ use crate::line::Line;
 use stoichiometry::{
     AerobicHalfSaturations, AlgaeHalfSaturations, AlgaeRates, AnoxicHalfSaturations, Fractions,
     GrowthRates, HalfSaturations, InertFractions, Organics, RateConstants, Set, Xn1HalfSaturations,
-    Xn2HalfSaturations, Yields,
+    Xn2HalfSaturations, Yields, number_of,
 };
 
 const FIGURES: usize = 83;
@@ -161,14 +161,12 @@ pub(crate) fn set_of(figures: Figures) -> Set {
     }
 }
 
-// The published set with the rate constants and half-saturations of the figures.
+// The published set with the rate constants and half-saturations of the figures; where it is refused, a set of zeros.
 pub(crate) fn published(figures: Figures) -> Told {
     let answer = Set::published(rates(figures), half_saturations(figures));
-    let number = answer.number;
-    let set = answer.set;
     Told {
-        number,
-        digest: of_set(set),
+        number: number_of(&answer),
+        digest: of_set(answer.unwrap_or(set_of(Figures::zeros()))),
     }
 }
 

@@ -22,8 +22,10 @@ use Rattle.stoichiometry.specs.Levels.{level_of}
 use Rattle.stoichiometry.specs.Parameters.{adds_up, fractions_wrong, figures_wrong, yields_fit, constants_fit}
 use Rattle.stoichiometry.specs.Parameters.{published_set}
 use Rattle.stoichiometry.specs.Rows.{Process, entry, oxygen_change, row, processes_of, process_at, row_entry, rows_of}
-use Rattle.stoichiometry.specs.Sets.{Accepted, rows_wrong, set_number, zero_set, published_answer}
+use Rattle.stoichiometry.specs.Sets.{Accepted, rows_wrong, set_number, published_answer}
 use Rattle.stoichiometry.proofs.Balance as Balance
+use Rattle.stoichiometry.specs.declared.refusals.Refusal.TheVariants.{Figures}
+use Rattle.std.specs.Prelude.{Ok, Err}
 use Rattle.stoichiometry.proofs.PublishedSet as Published
 use Rattle.rows.specs.Answers.{rows_answer}
 use Rattle.kinetics.specs.Conditions.{temperatures_fit, conditions_wrong}
@@ -75,8 +77,8 @@ pub published-accepted : (k : RateConstants) (h : HalfSaturations) → constants
 published-accepted = Published.published-accepted
 
 pub published_answer_lem : (k : RateConstants) (h : HalfSaturations)
-    → (published_answer k h ≡ record { number = 2; set = zero_set })
-    ⊎ (((published_answer k h).number ≡ 0) × Accepted (published_answer k h).set)
+    → (published_answer k h ≡ Err Figures)
+    ⊎ ((published_answer k h ≡ Ok (published_set k h)) × Accepted (published_set k h))
 published_answer_lem = Published.published_answer_lem
 
 -- A text is read as a river exactly when it is, byte for byte, the record of that river, which is in its bounds.

@@ -13,7 +13,8 @@ use Rattle.stoichiometry.specs.Substances.{organic, ss, xh, xs, nh4, no3, hpo4, 
 use Rattle.stoichiometry.specs.Substances.{substances, Substance, grains_per_microgram_n, grains_per_microgram_p}
 use Rattle.stoichiometry.specs.Parameters.{all_half_saturations, fractions}
 use Rattle.stoichiometry.specs.Parameters.{published_fractions, published_yields, published_inert}
-use Rattle.stoichiometry.specs.Sets.{set_number, published_answer}
+use Rattle.stoichiometry.specs.Sets.{set_number, zero_set, published_answer}
+use Rattle.std.specs.Result.{result_unwrap_or}
 use Rattle.rows.specs.declared.Rows.{Rows}
 use Rattle.rows.specs.Answers.{rows_answer}
 use Rattle.kinetics.specs.declared.Conditions.{Conditions}
@@ -49,7 +50,7 @@ rates =
     }
 
 abbrev published : Set
-published = (published_answer rates (all_half_saturations 1000000)).set
+published = result_unwrap_or (published_answer rates (all_half_saturations 1000000)) zero_set
 
 -- The published set with other fractions of SS.
 abbrev with_ss : Fractions → Set

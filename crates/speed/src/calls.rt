@@ -10,23 +10,25 @@ use crate::turns::{
     air_turn, flow_turn, frame_turn, load_turn, page_turn, read_turn, rows_turn, step_turn,
     write_turn,
 };
+use stoichiometry::Refusal;
 
 // The checksum of the calls that are asked for; 0 for a letter of no kind.
-pub(crate) fn checksum_of(asked: Order) -> u64 {
+pub(crate) fn checksum_of(asked: Order) -> Result<u64, Refusal> {
     let kind = asked.kind;
-    match kind {
-        b's' => steps(asked.calls),
+    let sum = match kind {
+        b's' => steps(asked.calls)?,
         b'f' => flows(asked.calls),
         b'a' => airs(asked.calls),
         b'l' => loads(asked.calls),
-        b'r' => rows(asked.calls),
+        b'r' => rows(asked.calls)?,
         b'w' => writes(asked.calls),
         b'R' => reads(asked.calls),
         b'p' => frames(asked.calls),
         b'b' => pages(asked.calls),
         b'n' => turns(asked.calls),
         _ => 0,
-    }
+    };
+    Ok(sum)
 }
 
 fn turns(calls: u64) -> u64 {
@@ -41,8 +43,8 @@ fn turns(calls: u64) -> u64 {
     sum
 }
 
-fn steps(calls: u64) -> u64 {
-    let sets = sets();
+fn steps(calls: u64) -> Result<u64, Refusal> {
+    let sets = sets()?;
     let rivers = rivers();
     let mut sum = 0;
     let mut turn = 0;
@@ -51,7 +53,7 @@ fn steps(calls: u64) -> u64 {
         sum = step_turn(sets[k], rivers[k], sum, turn);
         turn += 1;
     }
-    sum
+    Ok(sum)
 }
 
 fn flows(calls: u64) -> u64 {
@@ -90,8 +92,8 @@ fn loads(calls: u64) -> u64 {
     sum
 }
 
-fn rows(calls: u64) -> u64 {
-    let sets = sets();
+fn rows(calls: u64) -> Result<u64, Refusal> {
+    let sets = sets()?;
     let mut sum = 0;
     let mut turn = 0;
     while turn < calls {
@@ -99,7 +101,7 @@ fn rows(calls: u64) -> u64 {
         sum = rows_turn(sets[k], sum, turn);
         turn += 1;
     }
-    sum
+    Ok(sum)
 }
 
 fn writes(calls: u64) -> u64 {

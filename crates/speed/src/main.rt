@@ -13,16 +13,17 @@ mod rivers;
 mod sets;
 mod turns;
 
-use std::io;
+use anyhow::Result;
 use streams::read_full;
 
 // The most bytes of standard input that are read.
 const READ_MOST: usize = 4096;
 
-fn main(rt: HostRuntime) -> io::Result<()> {
+fn main(rt: HostRuntime) -> Result<()> {
     let mut text = [0; READ_MOST];
     let n = read_full(&mut rt.reader(), &mut text)?;
     let asked = order::order_of(&text[..n]);
-    let sum = calls::checksum_of(asked);
-    rt.println(sum)
+    let sum = calls::checksum_of(asked)?;
+    rt.println(sum)?;
+    Ok(())
 }

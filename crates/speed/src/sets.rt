@@ -1,7 +1,9 @@
 // The sets and the conditions of the steps: the published set with rate constants at which every process makes whole
 // batches, and with other yields and half-saturations in each set.
 use kinetics::{Conditions, Temperatures};
-use stoichiometry::{AlgaeRates, GrowthRates, HalfSaturations, RateConstants, Set, Yields};
+use stoichiometry::{
+    AlgaeRates, GrowthRates, HalfSaturations, RateConstants, Refusal, Set, Yields,
+};
 
 pub(crate) const SETS: usize = 8;
 
@@ -31,10 +33,9 @@ fn rates() -> RateConstants {
     }
 }
 
-fn set_of(i: u32) -> Set {
+fn set_of(i: u32) -> Result<Set, Refusal> {
     let other = i % 8;
-    let published = Set::published(rates(), HalfSaturations::all(200000 + other));
-    let mut set = published.set;
+    let mut set = Set::published(rates(), HalfSaturations::all(200000 + other))?;
     let yields = Yields {
         aerobic: 60 + other,
         nitrate: 50 + other,
@@ -45,20 +46,20 @@ fn set_of(i: u32) -> Set {
         hydrolysis: 100,
     };
     set.yields = yields;
-    set
+    Ok(set)
 }
 
-pub(crate) fn sets() -> [Set; SETS] {
-    [
-        set_of(0),
-        set_of(1),
-        set_of(2),
-        set_of(3),
-        set_of(4),
-        set_of(5),
-        set_of(6),
-        set_of(7),
-    ]
+pub(crate) fn sets() -> Result<[Set; SETS], Refusal> {
+    Ok([
+        set_of(0)?,
+        set_of(1)?,
+        set_of(2)?,
+        set_of(3)?,
+        set_of(4)?,
+        set_of(5)?,
+        set_of(6)?,
+        set_of(7)?,
+    ])
 }
 
 // The conditions of a turn: about a minute, with about half of the light.

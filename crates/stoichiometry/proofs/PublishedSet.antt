@@ -4,16 +4,20 @@
 use Prim.Native.Nat.{ℕ}
 use mathlib.Core.Bool.{Bool, true, false}
 use mathlib.Core.Logic.{◌⊎◌, inl, inr, ⊎_elim}
-use mathlib.Core.Path.{◌≡◌, refl, sym, ap, ◌∙◌}
+use mathlib.Core.Path.{◌≡◌, refl, sym, ap, ◌∙◌, transport}
 use native.Mathlib.Omega.{arith}
+use Rattle.std.specs.Prelude.{Result, Ok, Err}
+use Rattle.std.specs.Result.{result_unwrap_or}
+use Rattle.stoichiometry.specs.Refusals.{number_of}
 use Rattle.numeric.specs.Check.{every, all_of, first_holding}
 use Rattle.stoichiometry.specs.declared.HalfSaturations.{HalfSaturations}
-use Rattle.stoichiometry.specs.declared.Published.{Published}
 use Rattle.stoichiometry.specs.declared.RateConstants.{RateConstants}
+use Rattle.stoichiometry.specs.declared.Set.{Set}
+use Rattle.stoichiometry.specs.declared.refusals.Refusal.TheVariants.{Figures}
 use Rattle.stoichiometry.specs.Parameters.{adds_up, yields_fit, constants_fit, fractions_wrong}
 use Rattle.stoichiometry.specs.Parameters.{figures_wrong, published_set}
 use Rattle.stoichiometry.specs.Rows.{entry, oxygen_change, row, processes_of, process_at, row_entry}
-use Rattle.stoichiometry.specs.Sets.{Accepted, rows_wrong, zero_set, published_answer}
+use Rattle.stoichiometry.specs.Sets.{Accepted, rows_wrong, published_answer}
 use Rattle.stoichiometry.proofs.SetNumber.{number_zero}
 
 either : (b : Bool) → (b ≡ true) ⊎ (b ≡ false)
@@ -37,28 +41,28 @@ module _ (k : RateConstants) (h : HalfSaturations) where
   pub published-accepted : constants_fit k h ≡ true → Accepted (published_set k h)
   published-accepted e = number_zero (published_set k h) fractions-right (figures-right e) rows_right
 
-  in_range_lem : constants_fit k h ≡ true → published_answer k h ≡ record { number = 0; set = published_set k h }
+  pub in_range_lem : constants_fit k h ≡ true → published_answer k h ≡ Ok (published_set k h)
   unfolding published_answer first_holding
   in_range_lem e = rw e
 
-  out_of_range : constants_fit k h ≡ false → published_answer k h ≡ record { number = 2; set = zero_set }
+  pub out_of_range : constants_fit k h ≡ false → published_answer k h ≡ Err Figures
   unfolding published_answer first_holding
   out_of_range e = rw e
 
-  -- What is answered is a refusal with 2, or number 0 and an accepted set.
+  -- What is answered is a refusal with 2, or an accepted set.
   pub published_answer_lem :
-      (published_answer k h ≡ record { number = 2; set = zero_set })
-      ⊎ (((published_answer k h).number ≡ 0) × Accepted (published_answer k h).set)
+      (published_answer k h ≡ Err Figures)
+      ⊎ ((published_answer k h ≡ Ok (published_set k h)) × Accepted (published_set k h))
   published_answer_lem =
       ⊎_elim
-      (λ e. inr (rw (in_range_lem e) (refl, published-accepted e)))
+      (λ e. inr (in_range_lem e, published-accepted e))
       (λ e. inl (out_of_range e))
       (either (constants_fit k h))
 
-  -- So number 0 goes with an accepted set.
-  pub published_zero : (published_answer k h).number ≡ 0 → Accepted (published_answer k h).set
-  published_zero z =
+  -- So what is not refused is an accepted set.
+  pub published_zero : (set : Set) → published_answer k h ≡ Ok set → Accepted set
+  published_zero set e =
       ⊎_elim
-      (λ e. let two : ◌≡◌ {A = ℕ} 2 0 = sym (ap (λ (a : Published). a.number) e) ∙ z in absurd (omega arith))
-      (λ accepted. accepted.1)
+      (λ refused. absurd (omega (arith, ap number_of (sym refused ∙ e))))
+      (λ accepted. transport (ap (λ a. Accepted (result_unwrap_or a set)) (sym accepted.0 ∙ e)) accepted.1)
       published_answer_lem

@@ -5,3 +5,4 @@ pub mod Levels
 pub mod Parameters
 pub mod Rows
 pub mod Sets
+pub mod Refusals

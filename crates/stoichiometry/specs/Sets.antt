@@ -1,15 +1,16 @@
 -- What the calls on sets answer (scope, "Numbers a caller may get"): check 3, the number of a set, an accepted set,
 -- and the answer of `Set::published`. The answer of the rows: crate rows. No assumptions.
-use Rattle.std.specs.Prelude.{ℕ, Bool, true, not, ◌&&◌, cond, List, [], ◌∷◌, ◌≡◌, eqb, pos}
+use Rattle.std.specs.Prelude.{ℕ, Bool, true, not, ◌&&◌, List, [], ◌∷◌, ◌≡◌, pos, Result}
 use Rattle.std.specs.Int.Signed.{le_z, lt_z}
 use Rattle.numeric.specs.Check.{every, Check, first_holding, ◌when◌}
 use Rattle.stoichiometry.specs.declared.RateConstants.{RateConstants}
 use Rattle.stoichiometry.specs.declared.HalfSaturations.{HalfSaturations}
 use Rattle.stoichiometry.specs.declared.Set.{Set}
-use Rattle.stoichiometry.specs.declared.Published.{Published}
+use Rattle.stoichiometry.specs.declared.refusals.Refusal.{Refusal}
 use Rattle.stoichiometry.specs.Substances.{place, nh4, hpo4, o2, hco3}
 use Rattle.stoichiometry.specs.Parameters.{fractions_wrong, figures_wrong, constants_fit, fractions, published_set}
 use Rattle.stoichiometry.specs.Parameters.{all_rates, all_half_saturations}
+use Rattle.stoichiometry.specs.Refusals.{answer_of}
 use Rattle.stoichiometry.specs.Rows.{processes, Asked, consumes_o2, takes_up_nothing, unasked}
 use Rattle.stoichiometry.specs.Rows.{process_at, oxygen_change, row_entry}
 
@@ -49,8 +50,6 @@ zero_set =
       half = all_half_saturations 0;
     }
 
--- The published set with the caller's rate constants and half-saturations; 2 and zeros where one is outside its range.
-unfoldable pub published_answer : RateConstants → HalfSaturations → Published
-published_answer k h =
-    let n = first_holding (2 when not (constants_fit k h) ∷ []) in
-    record { number = n; set = cond (eqb n 0) (published_set k h) zero_set }
+-- The published set with the caller's rate constants and half-saturations; 2 where one is outside its range.
+unfoldable pub published_answer : RateConstants → HalfSaturations → Result Set Refusal
+published_answer k h = answer_of (first_holding (2 when not (constants_fit k h) ∷ [])) (published_set k h)

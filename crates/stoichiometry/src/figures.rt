@@ -1,7 +1,6 @@
-// The published set, and the set of zeros that a refusal hands out.
+// The published set.
 ghost use Rattle.std.specs.Prelude.{◌≡◌};
 ghost use Rattle.stoichiometry.specs.Parameters.{fractions, published_set};
-ghost use Rattle.stoichiometry.specs.Sets.{zero_set};
 
 use crate::{Fractions, HalfSaturations, InertFractions, Organics, RateConstants, Set, Yields};
 
@@ -47,38 +46,5 @@ pub(crate) fn published_set(rates: RateConstants, half: HalfSaturations) -> Set
         },
         rates,
         half,
-    }
-}
-
-pub(crate) fn zero_set() -> Set
-    ensures { result ≡ zero_set }
-{
-    let none = fractions_of(0, 0, 0, 0, 0);
-    Set {
-        fractions: Organics {
-            ss: none,
-            si: none,
-            xh: none,
-            xn1: none,
-            xn2: none,
-            xalg: none,
-            xs: none,
-            xi: none,
-        },
-        yields: Yields {
-            aerobic: 0,
-            nitrate: 0,
-            nitrite: 0,
-            xn1: 0,
-            xn2: 0,
-            death: 0,
-            hydrolysis: 0,
-        },
-        inert: InertFractions {
-            bacteria: 0,
-            algae: 0,
-        },
-        rates: RateConstants::all(0),
-        half: HalfSaturations::all(0),
     }
 }

@@ -9,9 +9,10 @@ mod set;
 mod walk;
 mod write;
 
-use std::io;
+use anyhow::Result;
 
-fn main(rt: HostRuntime) -> io::Result<()> {
-    let walked = calls::all(&rt, walk::Walk::start())?;
-    walked.write(&rt)
+fn main(rt: HostRuntime) -> Result<()> {
+    let walked = calls::all(&rt, walk::Walk::start()?)?;
+    walked.write(&rt)?;
+    Ok(())
 }

@@ -1,7 +1,7 @@
 // The published set, with rate constants and half-saturations of a small river in summer.
 use stoichiometry::{
     AerobicHalfSaturations, AlgaeHalfSaturations, AlgaeRates, AnoxicHalfSaturations, GrowthRates,
-    HalfSaturations, RateConstants, Set, Xn1HalfSaturations, Xn2HalfSaturations,
+    HalfSaturations, RateConstants, Refusal, Set, Xn1HalfSaturations, Xn2HalfSaturations,
 };
 
 fn organism(growth: u32, respiration: u32) -> GrowthRates {
@@ -65,7 +65,6 @@ fn half_saturations() -> HalfSaturations {
     }
 }
 
-pub(crate) fn published_set() -> Set {
-    let published = Set::published(rates(), half_saturations());
-    published.set
+pub(crate) fn published_set() -> Result<Set, Refusal> {
+    Set::published(rates(), half_saturations())
 }

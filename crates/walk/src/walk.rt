@@ -7,7 +7,7 @@ use kinetics::{Conditions, Temperatures};
 use river::River;
 use std::io::Result;
 use step::step_river;
-use stoichiometry::{Set, refusal};
+use stoichiometry::{Refusal, Set, refusal};
 use totals::{Totals, totals_of};
 use transport::{air_river, flow_river, load_river};
 
@@ -19,14 +19,15 @@ pub(crate) struct Walk {
 }
 
 impl Walk {
-    pub(crate) fn start() -> Walk {
+    pub(crate) fn start() -> std::result::Result<Walk, Refusal> {
+        let set = published_set()?;
         let fresh = River::fresh(BOOK as u32);
         let river = fresh.river;
-        Walk {
-            set: published_set(),
+        Ok(Walk {
+            set,
             river,
             book: empty(),
-        }
+        })
     }
 
     pub(crate) fn load(

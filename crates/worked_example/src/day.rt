@@ -1,12 +1,12 @@
 // The river, and what is done to it.
 use crate::constants::{half_saturations, rates};
 use crate::levels::{write_letters, write_levels};
+use anyhow::Result;
 use kinetics::{Conditions, Temperatures};
 use probe::{Amounts, Frame, Oxygen, OxygenAmount};
 use record::Record;
 use river::River;
-use std::io::Result;
-use stoichiometry::{Set, place};
+use stoichiometry::{Set, number_of, place};
 
 const CELLS: u32 = 2;
 
@@ -51,7 +51,8 @@ const MOLE: i64 = 312480000000000;
 
 fn write_call(rt: &impl Print, name: &[u8], number: u32) -> Result<()> {
     rt.write_all(name)?;
-    rt.println(number)
+    rt.println(number)?;
+    Ok(())
 }
 
 // What the probe reads: NH4-N, NO2-N, NO3-N and PO4-P in g/m³, oxygen in per cent of saturation.
@@ -83,9 +84,11 @@ impl Day {
         let fresh = River::fresh(CELLS);
         let river = fresh.river;
         let published = Set::published(rates(), half_saturations());
-        write_call(rt, b"set ", published.number)?;
-        let set = published.set;
-        Ok(Day { set, river })
+        write_call(rt, b"set ", number_of(&published))?;
+        Ok(Day {
+            set: published?,
+            river,
+        })
     }
 
     fn load(self, rt: &impl Print, substance: u32, number: i64) -> Result<Day> {
@@ -188,6 +191,7 @@ impl Day {
         let mut work = [0; BYTES];
         let number = record::write_record(river, &mut output, &mut work);
         write_call(rt, b"record ", number)?;
-        rt.write_all(&output)
+        rt.write_all(&output)?;
+        Ok(())
     }
 }

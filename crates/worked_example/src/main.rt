@@ -7,8 +7,8 @@ mod constants;
 mod day;
 mod levels;
 
-use std::io;
+use anyhow::Result;
 
-fn main(rt: HostRuntime) -> io::Result<()> {
+fn main(rt: HostRuntime) -> Result<()> {
     day::Day::start(&rt)?.loaded(&rt)?.hour(&rt)?.write(&rt)
 }
