@@ -1,7 +1,8 @@
 // Frames, whose readings are given by their bits; a pattern of a NaN gives a NaN.
 use crate::digest::{START, Told, with, with_signed};
 use crate::line::Line;
-use probe::{Amounts, Frame, Oxygen, OxygenAmount};
+use probe::{Amounts, Frame, Oxygen};
+use stoichiometry::number_of;
 
 // The bits without the sign that are infinity's; above them stand the NaNs.
 const INFINITY: u32 = 2139095040;
@@ -35,24 +36,24 @@ fn frame_of(line: Line) -> Frame {
     }
 }
 
-fn with_oxygen(d: u64, oxygen: OxygenAmount) -> u64 {
+fn with_oxygen(d: u64, oxygen: Option<i64>) -> u64 {
     match oxygen {
-        OxygenAmount::Grains(grains) => with_signed(with(d, 1), grains),
-        OxygenAmount::Missing => with(with(d, 0), 0),
+        Some(grains) => with_signed(with(d, 1), grains),
+        None => with(with(d, 0), 0),
     }
 }
 
 fn of_amounts(amounts: Amounts) -> u64 {
     let nitrogen = with_signed(with_signed(START, amounts.ammonium), amounts.nitrite);
     let four = with_signed(with_signed(nitrogen, amounts.nitrate), amounts.phosphate);
-    let oxygen = amounts.oxygen;
-    with_oxygen(four, oxygen)
+    with_oxygen(four, amounts.oxygen)
 }
 
+// A refused frame has the digest of zeros and no amount of O2.
 pub(crate) fn frame(line: Line) -> Told {
-    let amounts = probe::amounts_of(frame_of(line), line.figure(6));
+    let answer = probe::amounts_of(frame_of(line), line.figure(6));
     Told {
-        number: amounts.number,
-        digest: of_amounts(amounts),
+        number: number_of(&answer),
+        digest: of_amounts(answer.unwrap_or_default()),
     }
 }

@@ -5,18 +5,18 @@ use mathlib.Core.Path.{◌≡◌, refl}
 use mathlib.Core.Bool.{true, false}
 use mathlib.Core.List.{List, [], ◌∷◌, map}
 use Prim.Native.Nat.{ℕ}
-use lib.IntN.{pos}
+use lib.IntN.{ℤ, pos}
 use lib.Ieee.{Float, nan, inf, binary32, of_bits, round}
+use Rattle.std.specs.Prelude.{Option, Some, None, Ok, Err}
 use Rattle.numeric.specs.Case.{Case, ◌gives◌, AllHold}
 use Rattle.numeric.specs.Check.{first_holding}
+use Rattle.stoichiometry.specs.declared.refusals.Refusal.TheVariants.{Conditions, Reading}
 use Rattle.probe.specs.declared.Amounts.{Amounts}
 use Rattle.probe.specs.declared.Frame.{Frame}
 use Rattle.probe.specs.declared.Oxygen.{Oxygen}
 use Rattle.probe.specs.declared.Oxygen.TheVariants.{Mass, Percent, Missing}
-use Rattle.probe.specs.declared.OxygenAmount.{OxygenAmount}
-use Rattle.probe.specs.declared.OxygenAmount.TheVariants.{Grains, Missing as NoAmount}
 use Rattle.probe.specs.Readings.{reading_fits, scaled_floor}
-use Rattle.probe.specs.Frames.{mass_micrograms, percent_micrograms, frame_fits, frame_number, refused_frame, frame_answer}
+use Rattle.probe.specs.Frames.{mass_micrograms, percent_micrograms, frame_fits, frame_number, frame_answer}
 
 -- The f32 nearest numerator / denominator.
 abbrev nearest : ℕ → ℕ → Float
@@ -63,8 +63,8 @@ edges_hold = refl
 abbrev frame : Oxygen → Frame
 frame oxygen = record { ammonium = nearest 1 4; nitrite = minus_zero; nitrate = minus_zero; phosphate = minus_zero; oxygen = oxygen }
 
-abbrev taken : OxygenAmount → Amounts
-taken oxygen = record { number = 0; ammonium = pos 5580000000000; nitrite = pos 0; nitrate = pos 0; phosphate = pos 0; oxygen = oxygen }
+abbrev taken : Option ℤ → Amounts
+taken oxygen = record { ammonium = pos 5580000000000; nitrite = pos 0; nitrate = pos 0; phosphate = pos 0; oxygen = oxygen }
 
 -- A mass, a percentage, a missing reading; then a saturation of 20,000,001 with a missing reading, and a reading
 -- below zero.
@@ -75,6 +75,7 @@ pub frames_hold :
     ∷ frame_answer (frame Missing) 20000001
     ∷ frame_answer (frame (Mass least_negative)) 20000000
     ∷ [])
-    ≡ (taken (Grains (pos 8788490235000)) ∷ taken (Grains (pos 85443750000000)) ∷ taken NoAmount ∷ refused_frame 6 ∷ refused_frame 9 ∷ [])
+    ≡ Ok (taken (Some (pos 8788490235000))) ∷ Ok (taken (Some (pos 85443750000000))) ∷ Ok (taken None)
+    ∷ Err Conditions ∷ Err Reading ∷ []
 unfolding frame_answer frame_number frame_fits first_holding reading_fits scaled_floor of_bits round
 frames_hold = refl

@@ -1,39 +1,19 @@
--- Laws of frames: a frame that fits has readings that fit; its amounts are in 64 bits; its answer by the checks. No
--- assumptions.
+-- Laws of frames: an amount is in 64 bits; the answer of a frame by the checks. No assumptions.
 use mathlib.Core.Path.{◌≡◌, refl}
-use mathlib.Core.Bool.{Bool, true, false, ◌&&◌, false≢true}
+use mathlib.Core.Bool.{true, false}
 use Prim.Native.Nat.{ℕ, ◌*◌, ◌≤◌, ◌<◌}
 use native.Mathlib.Nat.{mul-le-mul, le_trans}
 use native.Mathlib.Omega.{arith}
 use lib.Dec.{ltb}
 use lib.Ieee.{Float}
+use Rattle.std.specs.Prelude.{Ok, Err}
 use Rattle.numeric.specs.Check.{first_holding}
+use Rattle.stoichiometry.specs.Limits.{most_saturation}
+use Rattle.stoichiometry.specs.declared.refusals.Refusal.TheVariants.{Conditions, Reading}
 use Rattle.probe.specs.declared.Frame.{Frame}
 use Rattle.probe.specs.Readings.{reading_fits, scaled_floor}
-use Rattle.probe.specs.Frames.{oxygen_fits, frame_fits, frame_number, frame_amounts, refused_frame, frame_answer}
-use Rattle.stoichiometry.specs.Limits.{most_saturation}
+use Rattle.probe.specs.Frames.{frame_fits, frame_number, frame_amounts, frame_answer}
 use Rattle.probe.proofs.ReadingLaws.{floor_bound}
-
--- What it says that a frame fits.
-pub record Fitting (f : Frame) : Type 0 where
-  pub ammonium : reading_fits f.ammonium ≡ true
-  pub nitrite : reading_fits f.nitrite ≡ true
-  pub nitrate : reading_fits f.nitrate ≡ true
-  pub phosphate : reading_fits f.phosphate ≡ true
-  pub oxygen : oxygen_fits f.oxygen ≡ true
-
-both_parts : (a b : Bool) → (a && b) ≡ true → (a ≡ true) × (b ≡ true)
-both_parts true b h = (refl, h)
-both_parts false b h = absurd (false≢true h)
-
-pub frame_fits_lem : (f : Frame) → frame_fits f ≡ true → Fitting f
-unfolding frame_fits
-frame_fits_lem f h =
-    let four = both_parts (reading_fits f.ammonium && reading_fits f.nitrite && reading_fits f.nitrate && reading_fits f.phosphate) (oxygen_fits f.oxygen) h in
-    let three = both_parts (reading_fits f.ammonium && reading_fits f.nitrite && reading_fits f.nitrate) (reading_fits f.phosphate) four.0 in
-    let two = both_parts (reading_fits f.ammonium && reading_fits f.nitrite) (reading_fits f.nitrate) three.0 in
-    let one = both_parts (reading_fits f.ammonium) (reading_fits f.nitrite) two.0 in
-    record { ammonium = one.0; nitrite = one.1; nitrate = two.1; phosphate = three.1; oxygen = four.1 }
 
 -- A floor times the grains of a µg is far below 2 ^ 63.
 pub grains_bound : (x : Float) (c d w : ℕ) → reading_fits x ≡ true → 0 < d → c ≤ most_saturation → w ≤ 22320000
@@ -44,16 +24,16 @@ grains_bound x c d w fits D C W =
 
 -- The answer of a frame, by the checks.
 pub saturation_refused : (f : Frame) (saturation : ℕ) → ltb most_saturation saturation ≡ true
-    → frame_answer f saturation ≡ refused_frame 6
+    → frame_answer f saturation ≡ Err Conditions
 unfolding frame_answer frame_number first_holding
 saturation_refused f saturation high = rw high refl
 
 pub frame_refused : (f : Frame) (saturation : ℕ) → ltb most_saturation saturation ≡ false → frame_fits f ≡ false
-    → frame_answer f saturation ≡ refused_frame 9
+    → frame_answer f saturation ≡ Err Reading
 unfolding frame_answer frame_number first_holding
 frame_refused f saturation low wrong = rw (low, wrong) refl
 
 pub frame-accepted : (f : Frame) (saturation : ℕ) → ltb most_saturation saturation ≡ false → frame_fits f ≡ true
-    → frame_answer f saturation ≡ frame_amounts f saturation
+    → frame_answer f saturation ≡ Ok (frame_amounts f saturation)
 unfolding frame_answer frame_number first_holding
 frame-accepted f saturation low right = rw (low, right) refl

@@ -1,16 +1,18 @@
 -- The probe frame (scope, "Probe frame, letter, record"): what its readings become, or the number it is refused with.
 -- Laws: proofs/FrameLaws.antt. No assumptions.
-use Rattle.std.specs.Prelude.{ℕ, ◌*◌, Bool, true, not, ◌&&◌, cond, [], ◌∷◌, ltb, eqb, pos, Float}
+use Rattle.std.specs.Prelude.{ℕ, ◌*◌, Bool, true, not, ◌&&◌, cond, [], ◌∷◌, ltb, ℤ, pos, Float, Option, Some, None}
+use Rattle.std.specs.Prelude.{Result, Ok, Err}
 use Rattle.numeric.specs.Check.{first_holding, ◌when◌}
+use Rattle.stoichiometry.specs.Limits.{most_saturation}
+use Rattle.stoichiometry.specs.Refusals.{answer_of}
 use Rattle.stoichiometry.specs.Substances.{grains_per_microgram_o, grains_per_microgram_n, grains_per_microgram_p}
+use Rattle.stoichiometry.specs.declared.refusals.Refusal.{Refusal}
+use Rattle.stoichiometry.specs.declared.refusals.Refusal.TheVariants.{Reading}
 use Rattle.probe.specs.declared.Amounts.{Amounts}
 use Rattle.probe.specs.declared.Frame.{Frame}
 use Rattle.probe.specs.declared.Oxygen.{Oxygen}
 use Rattle.probe.specs.declared.Oxygen.TheVariants.{Mass, Percent, Missing}
-use Rattle.probe.specs.declared.OxygenAmount.{OxygenAmount}
-use Rattle.probe.specs.declared.OxygenAmount.TheVariants.{Grains, Missing as NoAmount}
 use Rattle.probe.specs.Readings.{reading_fits, scaled_floor}
-use Rattle.stoichiometry.specs.Limits.{most_saturation}
 
 -- A mass, g/m³, in µg: the exact value × 10^6, rounded down.
 abbrev pub mass_micrograms : Float → ℕ
@@ -27,10 +29,10 @@ oxygen_fits (Percent x) = reading_fits x
 oxygen_fits Missing = true
 
 -- The amount of O2, grains: µg times W; a missing reading gives a mark, no amount.
-abbrev pub oxygen_amount : Oxygen → ℕ → OxygenAmount
-oxygen_amount (Mass x) saturation = Grains (pos (mass_micrograms x * grains_per_microgram_o))
-oxygen_amount (Percent x) saturation = Grains (pos (percent_micrograms x saturation * grains_per_microgram_o))
-oxygen_amount Missing saturation = NoAmount
+abbrev pub oxygen_amount : Oxygen → ℕ → Option ℤ
+oxygen_amount (Mass x) saturation = Some (pos (mass_micrograms x * grains_per_microgram_o))
+oxygen_amount (Percent x) saturation = Some (pos (percent_micrograms x saturation * grains_per_microgram_o))
+oxygen_amount Missing saturation = None
 
 -- No reading of the frame is refused.
 unfoldable pub frame_fits : Frame → Bool
@@ -48,7 +50,6 @@ frame_number f saturation = first_holding (6 when ltb most_saturation saturation
 -- The amounts of the frame's readings, grains.
 abbrev pub frame_amounts : Frame → ℕ → Amounts
 frame_amounts f saturation = record {
-  number = 0;
   ammonium = pos (mass_micrograms f.ammonium * grains_per_microgram_n);
   nitrite = pos (mass_micrograms f.nitrite * grains_per_microgram_n);
   nitrate = pos (mass_micrograms f.nitrate * grains_per_microgram_n);
@@ -56,13 +57,10 @@ frame_amounts f saturation = record {
   oxygen = oxygen_amount f.oxygen saturation;
 }
 
--- A refusal: the number, zeros, and no amount of O2.
-abbrev pub refused_frame : ℕ → Amounts
-refused_frame number =
-    let z = pos 0 in
-    record { number = number; ammonium = z; nitrite = z; nitrate = z; phosphate = z; oxygen = NoAmount }
+-- What is made of readings, or the refusal of one that does not fit.
+abbrev pub if_fits : {A : Type 0} → Bool → A → Result A Refusal
+if_fits fits done = cond fits (Ok done) (Err Reading)
 
-unfoldable pub frame_answer : Frame → ℕ → Amounts
-frame_answer f saturation =
-    let n = frame_number f saturation in
-    cond (eqb n 0) (frame_amounts f saturation) (refused_frame n)
+-- The answer of `amounts_of`: 6, 9, or the amounts.
+unfoldable pub frame_answer : Frame → ℕ → Result Amounts Refusal
+frame_answer f saturation = answer_of (frame_number f saturation) (frame_amounts f saturation)

@@ -4,8 +4,8 @@
 ghost use Rattle.std.specs.Prelude.{◌≡◌};
 ghost use Rattle.probe.specs.Frames.{frame_answer};
 
-use crate::frames::{amounts, frame_fits, refused};
-use stoichiometry::{Saturation, refusal};
+use crate::frames::amounts;
+use stoichiometry::{Refusal, Saturation};
 
 mod frames;
 mod readings;
@@ -33,35 +33,24 @@ impl Frame {
     pub const READING_END: f32 = 256.0;
 }
 
-// The amount of O2, grains, or the mark of a missing reading.
-#[derive(Clone, Copy)]
-pub enum OxygenAmount {
-    Grains(i64),
-    Missing,
-}
-
-// What a frame becomes: a number, 0 for none, and the amounts of NH4, NO2, NO3, HPO4 and O2, grains.
-#[derive(Clone, Copy)]
+// What a frame becomes: the amounts of NH4, NO2, NO3, HPO4 and O2, grains. None is the mark of a missing reading.
+#[derive(Clone, Copy, Default)]
 pub struct Amounts {
-    pub number: u32,
     pub ammonium: i64,
     pub nitrite: i64,
     pub nitrate: i64,
     pub phosphate: i64,
-    pub oxygen: OxygenAmount,
+    pub oxygen: Option<i64>,
 }
 
-// The amounts of a frame; saturation in µg of O2. Answers the number of the first check that holds (6, 9), with zeros
-// and no amount of O2. The saturation is tested for every frame, also with a mass or a missing reading.
-pub fn amounts_of(frame: Frame, saturation: u32) -> Amounts
+// The amounts of a frame; saturation in µg of O2. Refuses by the first check that holds (6, 9). The saturation is
+// tested for every frame, also with a mass or a missing reading.
+#[tactic(auto, unfolding(crate::specs::Frames::frame_answer, crate::specs::Frames::frame_number, numeric::specs::Check::first_holding))]
+pub fn amounts_of(frame: Frame, saturation: u32) -> Result<Amounts, Refusal>
     ensures answer { result ≡ frame_answer frame saturation }
 {
     if saturation > Saturation::MOST {
-        return refused(refusal::CONDITIONS);
+        return Err(Refusal::Conditions);
     }
-    if frame_fits(frame) {
-        amounts(frame, saturation)
-    } else {
-        refused(refusal::READING)
-    }
+    amounts(frame, saturation)
 }

@@ -13,21 +13,25 @@ const SIGN: u64 = 2147483648;
 
 const FIELD_OF_ONE_DIGIT: u64 = 150;
 
+// What a reading is multiplied by, a fraction: µg for a reading of one.
+#[derive(Clone, Copy)]
+pub(crate) struct Scale {
+    pub numerator: u64,
+    pub denominator: u64,
+    pub ghost in_range: { (numerator ≤ most_saturation) × (1 ≤ denominator) },
+}
+
 // A reading is a number, not below zero, and below 256. A NaN fails both comparisons; −0 passes.
 pub(crate) fn reading_fits(x: f32) -> bool
     ensures { result ≡ reading_fits x }
 {
-    if x >= 0.0 {
-        x < Frame::READING_END
-    } else {
-        false
-    }
+    x >= 0.0 && x < Frame::READING_END
 }
 
-// The exact value of x times numerator / denominator, rounded down. Readings of field 0 give less than one.
-pub(crate) fn scaled_floor(x: f32, numerator: u64, denominator: u64) -> u64
-    requires { (reading_fits x ≡ true) × (numerator ≤ most_saturation) × (1 ≤ denominator) }
-    ensures { result ≡ scaled_floor x numerator denominator }
+// The exact value of x times the scale, rounded down. Readings of field 0 give less than one.
+pub(crate) fn scaled_floor(x: f32, scale: Scale) -> u64
+    requires { reading_fits x ≡ true }
+    ensures { result ≡ scaled_floor x scale.numerator scale.denominator }
 {
     let bits = f32::to_bits(x) as u64;
     let digits = bits % DIGITS;
@@ -35,7 +39,7 @@ pub(crate) fn scaled_floor(x: f32, numerator: u64, denominator: u64) -> u64
     if field == 0 {
         return 0;
     }
-    let scaled = (DIGITS + digits) * numerator / denominator;
+    let scaled = (DIGITS + digits) * scale.numerator / scale.denominator;
     let shift = FIELD_OF_ONE_DIGIT - field;
     if shift < 64 { scaled >> shift } else { 0 }
 }

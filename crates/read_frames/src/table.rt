@@ -1,5 +1,5 @@
 // The table of frames. A reading is given by its bits; a pattern of a NaN gives a NaN.
-use crate::write::write_amounts;
+use crate::write::write_answer;
 use probe::{Frame, Oxygen};
 use std::io::Result;
 
@@ -16,7 +16,7 @@ fn reading(bits: u32) -> f32 {
     }
 }
 
-// Converts a frame, given by the bits of NH4-N, NO2-N, NO3-N and PO4-P, and writes its amounts.
+// Converts a frame, given by the bits of NH4-N, NO2-N, NO3-N and PO4-P, and writes its answer.
 fn show(rt: &impl Print, bits: [u32; 4], oxygen: Oxygen, saturation: u32) -> Result<()> {
     let frame = Frame {
         ammonium: reading(bits[0]),
@@ -25,7 +25,7 @@ fn show(rt: &impl Print, bits: [u32; 4], oxygen: Oxygen, saturation: u32) -> Res
         phosphate: reading(bits[3]),
         oxygen,
     };
-    write_amounts(rt, probe::amounts_of(frame, saturation))
+    write_answer(rt, probe::amounts_of(frame, saturation))
 }
 
 fn mass(bits: u32) -> Oxygen {

@@ -2,6 +2,8 @@
 -- it, beside the one that is stated. A Monod factor alone is no call's answer: there stands its definition. That all of
 -- it holds: proofs/Results.antt. No assumptions.
 use Rattle.std.specs.Prelude.{ℕ, ◌+◌, ◌-◌, ◌*◌, false, List, [], ◌∷◌, Float, ℤ, pos, neg_ℤ, get_or}
+use Rattle.std.specs.Prelude.{Result, None}
+use Rattle.std.specs.Result.{result_unwrap_or}
 use Rattle.std.specs.Float.{binary32}
 use Rattle.std.specs.Float.Ieee.{round}
 use Rattle.numeric.specs.Case.{Case, ◌gives◌}
@@ -14,7 +16,8 @@ use Rattle.stoichiometry.specs.Substances.{substances, Substance, grains_per_mic
 use Rattle.stoichiometry.specs.Parameters.{all_half_saturations, fractions}
 use Rattle.stoichiometry.specs.Parameters.{published_fractions, published_yields, published_inert}
 use Rattle.stoichiometry.specs.Sets.{set_number, zero_set, published_answer}
-use Rattle.std.specs.Result.{result_unwrap_or}
+use Rattle.stoichiometry.specs.Refusals.{number_of}
+use Rattle.stoichiometry.specs.declared.refusals.Refusal.{Refusal}
 use Rattle.rows.specs.declared.Rows.{Rows}
 use Rattle.rows.specs.Answers.{rows_answer}
 use Rattle.kinetics.specs.declared.Conditions.{Conditions}
@@ -129,8 +132,13 @@ frame =
       oxygen = Missing;
     }
 
+abbrev read_answer : Result Amounts Refusal
+read_answer = frame_answer frame 10000000
+
 abbrev read : Amounts
-read = frame_answer frame 10000000
+read =
+    let z = pos 0 in
+    result_unwrap_or read_answer (record { ammonium = z; nitrite = z; nitrate = z; phosphate = z; oxygen = None })
 
 unfoldable pub starred : List Case
 starred =
@@ -157,7 +165,7 @@ starred =
     ∷ passes h_plus gives neg_ℤ (pos 1)
     ∷ pos aired.number gives pos 0
     ∷ aired.amount gives pos 8137496745000
-    ∷ pos read.number gives pos 0
+    ∷ pos (number_of read_answer) gives pos 0
     ∷ read.ammonium gives pos (699999 * grains_per_microgram_n)
     ∷ read.nitrite gives pos (500000 * grains_per_microgram_n)
     ∷ read.nitrate gives pos (699999 * grains_per_microgram_n)

@@ -1,6 +1,7 @@
 // The frames of the turns: their oxygen is a mass, a percentage and missing in turn.
 use crate::checksum::{with, with_signed};
-use probe::{Amounts, Frame, Oxygen, OxygenAmount};
+use probe::{Amounts, Frame, Oxygen};
+use stoichiometry::{Refusal, number_of};
 
 pub(crate) const READINGS: usize = 16;
 
@@ -32,20 +33,20 @@ pub(crate) fn frame_of(readings: &[f32; READINGS], turn: u64) -> Frame {
     }
 }
 
-fn with_oxygen(sum: u64, oxygen: OxygenAmount) -> u64 {
+fn with_oxygen(sum: u64, oxygen: Option<i64>) -> u64 {
     match oxygen {
-        OxygenAmount::Grains(grains) => with_signed(sum, grains),
-        OxygenAmount::Missing => with(sum, 1),
+        Some(grains) => with_signed(sum, grains),
+        None => with(sum, 1),
     }
 }
 
-// The checksum with everything of an answer.
-pub(crate) fn with_frame(sum: u64, amounts: Amounts) -> u64 {
-    let number = with(sum, amounts.number as u64);
+// The checksum with everything of an answer; of a refused frame zeros, and no amount of O2.
+pub(crate) fn with_frame(sum: u64, answer: Result<Amounts, Refusal>) -> u64 {
+    let number = with(sum, number_of(&answer) as u64);
+    let amounts = answer.unwrap_or_default();
     let ammonium = with_signed(number, amounts.ammonium);
     let nitrite = with_signed(ammonium, amounts.nitrite);
     let nitrate = with_signed(nitrite, amounts.nitrate);
     let phosphate = with_signed(nitrate, amounts.phosphate);
-    let oxygen = amounts.oxygen;
-    with_oxygen(phosphate, oxygen)
+    with_oxygen(phosphate, amounts.oxygen)
 }

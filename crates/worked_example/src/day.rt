@@ -3,10 +3,10 @@ use crate::constants::{half_saturations, rates};
 use crate::levels::{write_letters, write_levels};
 use anyhow::Result;
 use kinetics::{Conditions, Temperatures};
-use probe::{Amounts, Frame, Oxygen, OxygenAmount};
+use probe::{Amounts, Frame, Oxygen};
 use record::Record;
 use river::River;
-use stoichiometry::{Set, number_of, place};
+use stoichiometry::{Refusal, Set, number_of, place};
 
 const CELLS: u32 = 2;
 
@@ -66,13 +66,6 @@ fn frame() -> Frame {
     }
 }
 
-fn grains(oxygen: OxygenAmount) -> i64 {
-    match oxygen {
-        OxygenAmount::Grains(grains) => grains,
-        OxygenAmount::Missing => 0,
-    }
-}
-
 #[derive(Clone, Copy)]
 pub(crate) struct Day {
     set: Set,
@@ -100,14 +93,18 @@ impl Day {
         Ok(Day { set, river })
     }
 
-    fn load_frame(self, rt: &impl Print, amounts: Amounts) -> Result<Day> {
-        write_call(rt, b"frame ", amounts.number)?;
-        let oxygen = amounts.oxygen;
+    fn load_frame(
+        self,
+        rt: &impl Print,
+        answer: std::result::Result<Amounts, Refusal>,
+    ) -> Result<Day> {
+        write_call(rt, b"frame ", number_of(&answer))?;
+        let amounts = answer?;
         self.load(rt, NH4, amounts.ammonium)?
             .load(rt, NO2, amounts.nitrite)?
             .load(rt, NO3, amounts.nitrate)?
             .load(rt, HPO4, amounts.phosphate)?
-            .load(rt, O2, grains(oxygen))
+            .load(rt, O2, amounts.oxygen.unwrap_or(0))
     }
 
     // The probe's amounts, 10 g of SS, 5 g of XS, 2 mol of HCO3 and the organisms.
