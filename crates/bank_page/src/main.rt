@@ -20,7 +20,7 @@ fn main(rt: HostRuntime) -> io::Result<()> {
     let river = read.river;
     let number = read.number;
     if number == 0 {
-        if page::write_page(river, &mut output) == 0 {
+        if page::write_page(river, &mut output).is_ok() {
             let bytes = river.cells as usize * Page::ROW_BYTES;
             if bytes <= PAGE_BYTES {
                 rt.write_all(&output[0..bytes])?;

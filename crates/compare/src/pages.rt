@@ -3,11 +3,12 @@ use crate::digest::{START, Told, with_bytes};
 use crate::line::Line;
 use crate::records::{ROOM, within_room};
 use river::River;
+use stoichiometry::number_of;
 
 fn write_one(river: River, output: &mut [u8]) -> Told {
-    let number = page::write_page(river, output);
+    let answer = page::write_page(river, output);
     Told {
-        number,
+        number: number_of(&answer),
         digest: with_bytes(START, output),
     }
 }

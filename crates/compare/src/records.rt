@@ -5,6 +5,7 @@ use crate::digest::{START, Told, of_river, with, with_bytes};
 use crate::line::Line;
 use record::Record;
 use river::{Changed, River};
+use stoichiometry::number_of;
 
 // Room for more than a text of nine cells.
 pub(crate) const ROOM: usize = 8600;
@@ -22,11 +23,9 @@ pub(crate) fn within_room(n: usize) -> usize
 }
 
 // The length of the record of so many cells.
-fn record_length(number: u32, cells: u32) -> usize {
-    if number == 0 {
-        if cells <= 8 {
-            return cells as usize * Record::CELL_BYTES;
-        }
+fn record_length(cells: u32) -> usize {
+    if cells <= 8 {
+        return cells as usize * Record::CELL_BYTES;
     }
     0
 }
@@ -77,11 +76,11 @@ impl Text {
     pub(crate) fn of(river: River) -> Text {
         let mut bytes = [0; ROOM];
         let mut work = [0; ROOM];
-        let number = record::write_record(river, &mut bytes, &mut work);
-        Text {
-            bytes,
-            length: record_length(number, river.cells),
-        }
+        let length = match record::write_record(river, &mut bytes, &mut work) {
+            Ok(()) => record_length(river.cells),
+            Err(_) => 0,
+        };
+        Text { bytes, length }
     }
 
     // With the change that a line makes; a line with another letter makes none.
@@ -109,9 +108,9 @@ impl Text {
 }
 
 fn write_both(river: River, output: &mut [u8], work: &mut [u8]) -> Told {
-    let number = record::write_record(river, output, work);
+    let answer = record::write_record(river, output, work);
     Told {
-        number,
+        number: number_of(&answer),
         digest: with_bytes(with_bytes(START, output), work),
     }
 }

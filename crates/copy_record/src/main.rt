@@ -18,7 +18,7 @@ fn main(rt: HostRuntime) -> io::Result<()> {
     let river = read.river;
     let number = read.number;
     if number == 0 {
-        if record::write_record(river, &mut output, &mut work) == 0 {
+        if record::write_record(river, &mut output, &mut work).is_ok() {
             let bytes = river.cells as usize * Record::CELL_BYTES;
             if bytes <= LONGEST {
                 rt.write_all(&output[0..bytes])?;

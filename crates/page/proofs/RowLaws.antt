@@ -1,12 +1,12 @@
 -- Laws of a row, for any cell, letter and six levels: its width, its characters, and where a level stands.
 -- No assumptions.
-use Prim.Native.Nat.{ℕ, ◌+◌, ◌*◌, ◌≤◌, ◌<◌}
+use Prim.Native.Nat.{ℕ, ◌+◌, ◌*◌, ◌<◌}
 use mathlib.Core.List.{List, [], ◌∷◌, ◌++◌, append_assoc}
 use mathlib.Core.Path.{◌≡◌, refl, ap, ◌∙◌}
 use native.Mathlib.Omega.{arith}
-use lib.ListN.{length, take, drop, get_or, length-append, length-drop}
+use lib.ListN.{length, drop, get_or, length-append, length-drop}
 use lib.Seq.{take-append-le, drop-append-le, drop-append-add}
-use Rattle.text.specs.Blocks.{blocks, part}
+use Rattle.text.specs.Blocks.{part}
 use Rattle.text.specs.Decimals.{plain}
 use Rattle.text.proofs.BlockLaws.{blocks-length, part-blocks}
 use Rattle.text.proofs.DecimalLaws.{plain-length}

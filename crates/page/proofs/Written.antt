@@ -86,13 +86,9 @@ module _ (r : River) (output : ℕ) where
   page_accepted right h = rw (right, le-ltb output (r.cells * row_bytes) h) refl
 
 -- On refusal every byte of the output stays.
-output_stays : (number : ℕ) (r : River) (l : List ℕ) → eqb number 0 ≡ false → page_after number r l ≡ l
+pub output_stays : (number : ℕ) (r : River) (l : List ℕ) → eqb number 0 ≡ false → page_after number r l ≡ l
 unfolding page_after
 output_stays number r l refused = ap (λ (b : Bool). cond b (put l 0 (page_of r)) l) refused
-
-pub stays : (r : River) (l : List ℕ) (number : ℕ) → eqb number 0 ≡ false → page_number r (length l) ≡ number
-    → (number ≡ page_number r (length l)) × (l ≡ page_after number r l)
-stays r l number refused e = (sym e, sym (output_stays number r l refused))
 
 -- Otherwise it begins with the page.
 pub page_written : (r : River) (l : List ℕ) → page_after 0 r l ≡ put l 0 (page_of r)

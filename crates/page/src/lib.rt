@@ -2,11 +2,12 @@
 #![tactic(auto)]
 
 ghost use Rattle.std.specs.Prelude.{◌≡◌, length};
+ghost use Rattle.stoichiometry.specs.Refusals.{answer_of, number_of};
 ghost use Rattle.page.specs.Writing.{page_number, page_after};
 
 use crate::writing::write_rows;
 use river::{River, river_fits};
-use stoichiometry::refusal;
+use stoichiometry::Refusal;
 
 mod writing;
 
@@ -30,19 +31,19 @@ impl Page {
     pub const ROW_BYTES: usize = Page::LINE_FEED + 1;
 }
 
-// Writes the river's page to the start of the output; bytes past it stay. Answers the number of the first check that
-// holds (4, 12), and then every byte is as before.
-pub fn write_page(river: River, output: &mut [u8]) -> u32
-    ensures answer { result ≡ page_number river (length output.old) }
-    ensures output { output.new ≡ page_after result river output.old }
+// Writes the river's page to the start of the output; bytes past it stay. Refuses by the first check that holds (4, 12),
+// and then every byte is as before.
+pub fn write_page(river: River, output: &mut [u8]) -> Result<(), Refusal>
+    ensures answer { result ≡ answer_of (page_number river (length output.old)) tt }
+    ensures output { output.new ≡ page_after (number_of result) river output.old }
 {
     if !river_fits(river.cells, &river.amounts, &river.carries) {
-        return refusal::RIVER;
+        return Err(Refusal::River);
     }
     let n = river.cells as usize;
     if output.len() < n * Page::ROW_BYTES {
-        return refusal::PAGE;
+        return Err(Refusal::Page);
     }
     write_rows(output, n, &river.amounts);
-    refusal::NONE
+    Ok(())
 }

@@ -89,18 +89,13 @@ module _ (r : River) (output work : ℕ) where
 
 -- On refusal every byte of both buffers stays.
 module _ (number : ℕ) (r : River) (l : List ℕ) (refused : eqb number 0 ≡ false) where
-  output_stays : output_after number r l ≡ l
+  pub output_stays : output_after number r l ≡ l
   unfolding output_after
   output_stays = ap (λ (b : Bool). cond b (put l 0 (record_of r)) l) refused
 
-  work_stays : work_after number r l ≡ l
+  pub work_stays : work_after number r l ≡ l
   unfolding work_after
   work_stays = ap (λ (b : Bool). cond b (put l 0 (record_of r)) l) refused
-
-pub stays : (r : River) (o w : List ℕ) (number : ℕ) → eqb number 0 ≡ false
-    → write_number r (length o) (length w) ≡ number
-    → (number ≡ write_number r (length o) (length w)) × ((o ≡ output_after number r o) × (w ≡ work_after number r w))
-stays r o w number refused e = (sym e, (sym (output_stays number r o refused), sym (work_stays number r w refused)))
 
 -- Otherwise both begin with the record: the bytes that are copied are it.
 pub output_written : (r : River) (l : List ℕ) → output_after 0 r l ≡ put l 0 (record_of r)

@@ -2,11 +2,12 @@
 #![tactic(auto)]
 
 ghost use Rattle.std.specs.Prelude.{◌≡◌, length};
+ghost use Rattle.stoichiometry.specs.Refusals.{answer_of, number_of};
 ghost use Rattle.record.specs.Writing.{write_number, output_after, work_after};
 
 use crate::writing::write_cells;
 use river::{River, river_fits};
-use stoichiometry::{PROCESSES, SUBSTANCES, refusal};
+use stoichiometry::{PROCESSES, Refusal, SUBSTANCES};
 use text::copy_bytes;
 
 mod writing;
@@ -31,25 +32,22 @@ impl Record {
     pub const LINE_FEED: usize = Record::VALUE_START + Record::VALUE_COLUMNS;
 }
 
-// Writes the river's record to the start of the output and of the work area; bytes past it stay. Answers the number
-// of the first check that holds (4, 10), and then every byte of both is as before.
-pub fn write_record(river: River, output: &mut [u8], work: &mut [u8]) -> u32
-    ensures answer { result ≡ write_number river (length output.old) (length work.old) }
-    ensures output { output.new ≡ output_after result river output.old }
-    ensures work { work.new ≡ work_after result river work.old }
+// Writes the river's record to the start of the output and of the work area; bytes past it stay. Refuses by the first
+// check that holds (4, 10), and then every byte of both is as before.
+pub fn write_record(river: River, output: &mut [u8], work: &mut [u8]) -> Result<(), Refusal>
+    ensures answer { result ≡ answer_of (write_number river (length output.old) (length work.old)) tt }
+    ensures output { output.new ≡ output_after (number_of result) river output.old }
+    ensures work { work.new ≡ work_after (number_of result) river work.old }
 {
     if !river_fits(river.cells, &river.amounts, &river.carries) {
-        return refusal::RIVER;
+        return Err(Refusal::River);
     }
     let n = river.cells as usize;
     let bytes = n * Record::CELL_BYTES;
-    if output.len() < bytes {
-        return refusal::SPACE;
-    }
-    if work.len() < bytes {
-        return refusal::SPACE;
+    if output.len() < bytes || work.len() < bytes {
+        return Err(Refusal::Space);
     }
     write_cells(output, n, &river.amounts, &river.carries);
     copy_bytes(output, bytes, work);
-    refusal::NONE
+    Ok(())
 }

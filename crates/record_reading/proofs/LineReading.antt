@@ -1,24 +1,23 @@
 -- Laws of the lines of a record as they are read: `same_bytes` is equality; a line is read as its value (`line_value_lem`)
--- and what is read as a value is the line of it (`value_line`). Then a line within a text, as the code reads it: what
--- stands before the value, the line feed, the value. No assumptions.
-use Prim.Native.Nat.{ℕ, ◌+◌, ◌≤◌}
+-- and what is read as a value is the line of it (`value_line`). Then a line as the code reads it: what stands before the
+-- value, the line feed, the value. No assumptions.
+use Prim.Native.Nat.{ℕ, ◌≤◌}
 use mathlib.Core.Bool.{Bool, true, false, ◌&&◌, cond, and-true, true≢false}
 use mathlib.Core.List.{List, [], ◌∷◌, ◌++◌, append_assoc}
 use mathlib.Core.Path.{◌≡◌, refl, sym, ap, ap₂, ◌∙◌}
-use native.Mathlib.Nat.{add-zero}
 use native.Mathlib.Omega.{arith}
 use borrow.Author.Tests.{eqb-true, eq-eqb}
 use lib.Dec.{eqb}
-use lib.IntN.{ℤ, nat_abs}
-use lib.ListN.{length, take, drop, get_or, length-append, length-take, length-drop}
-use lib.Seq.{take_at, drop_at, take-add, take-suc, drop-drop, get_or-drop, get_or_at}
+use lib.IntN.{ℤ, pos, nat_abs}
+use lib.ListN.{length, get_or, length-append, length-take, length-drop}
+use lib.Seq.{take_at, take_all, drop_at, take-add, take-suc, get_or_at}
 use lib.Signed.{le_z}
 use Rattle.numeric.specs.Table.{tab}
 use Rattle.numeric.proofs.CheckLaws.{and_left, and_right}
-use Rattle.text_reading.specs.declared.Decimal.{Decimal}
+use Rattle.std.specs.Prelude.{Option, Some, None, is_some, unwrap_or, option_and_then}
 use Rattle.text.specs.Blocks.{part}
 use Rattle.text.specs.Decimals.{columns, plain, decimal}
-use Rattle.text_reading.specs.Reading.{accepted, none, parse}
+use Rattle.text_reading.specs.Reading.{parse}
 use Rattle.text.proofs.BlockLaws.{part-tab}
 use Rattle.text.proofs.DecimalLaws.{decimal-length}
 use Rattle.text_reading.proofs.ReadingLaws.{Answers, refused, read, parse-decimal, parse_only}
@@ -63,7 +62,7 @@ line-parts cell k z =
 
 -- A line is read as its value.
 pub line_value_lem : (cell k : ℕ) (z lowest highest : ℤ) → le_z lowest z ≡ true → le_z z highest ≡ true
-    → nat_abs z ≤ most_net → line_value (line cell k z) cell k lowest highest ≡ accepted z
+    → nat_abs z ≤ most_net → line_value (line cell k z) cell k lowest highest ≡ Some z
 unfolding line_value Parts
 line_value_lem cell k z lowest highest from to small =
     rw ((line-parts cell k z).1, parse-decimal lowest highest 18 z from to (omega arith) (omega arith))
@@ -73,97 +72,88 @@ line_value_lem cell k z lowest highest from to small =
 LineOf : List ℕ → ℕ → ℕ → ℤ → ℤ → ℤ → Type 0
 LineOf l cell k lowest highest z = (l ≡ line cell k z) × (le_z lowest z ≡ true) × (le_z z highest ≡ true)
 
-pub value_line : (l : List ℕ) (cell k : ℕ) (lowest highest : ℤ) → (line_value l cell k lowest highest).ok ≡ true
-    → let z = (line_value l cell k lowest highest).value in
+pub value_line : (l : List ℕ) (cell k : ℕ) (lowest highest : ℤ) → is_some (line_value l cell k lowest highest) ≡ true
+    → let z = unwrap_or (line_value l cell k lowest highest) (pos 0) in
     (l ≡ line cell k z) × (le_z lowest z ≡ true) × (le_z z highest ≡ true)
 unfolding line_value LineOf
 value_line l cell k lowest highest = go (parse lowest highest (part 6 20 l)) (parse_only lowest highest (part 6 20 l))
   where
-    go : (n : Decimal) → Answers lowest highest (part 6 20 l) n
-        → let m = cond (n.ok && same_bytes l (line cell k n.value)) n none in
-        m.ok ≡ true → LineOf l cell k lowest highest m.value
+    of : Option ℤ → Option ℤ
+    of = option_and_then (λ z. cond (same_bytes l (line cell k z)) (Some z) None)
+
+    go : (n : Option ℤ) → Answers lowest highest (part 6 20 l) n
+        → is_some (of n) ≡ true → LineOf l cell k lowest highest (unwrap_or (of n) (pos 0))
     go n refused e = absurd (true≢false (sym e))
     go n (read z text) e = at (same_bytes l (line cell k z)) refl e
       where
         at : (b : Bool) → same_bytes l (line cell k z) ≡ b
-            → let m = cond b (accepted z) none in m.ok ≡ true → LineOf l cell k lowest highest m.value
+            → let m = cond b (Some z) None in is_some m ≡ true → LineOf l cell k lowest highest (unwrap_or m (pos 0))
         at true same e = (same_true l (line cell k z) same, text.from, text.to)
         at false same e = absurd (true≢false (sym e))
 
 -- What stands before a value of a text, byte by byte: the columns of the cell, a blank, those of the line, a blank.
-pub front_read : (t : List ℕ) (at cell k : ℕ) → at + 6 ≤ length t
-    → same_bytes (part at 6 t) (front cell k)
-    ≡ (eqb (get_or t at 0) (get_or (plain 2 32 cell) 0 0)
-    && (eqb (get_or t (at + 1) 0) (get_or (plain 2 32 cell) 1 0)
-    && (eqb (get_or t (at + 2) 0) 32
-    && (eqb (get_or t (at + 3) 0) (get_or (plain 2 32 k) 0 0)
-    && (eqb (get_or t (at + 4) 0) (get_or (plain 2 32 k) 1 0) && eqb (get_or t (at + 5) 0) 32)))))
+pub front_read : (l : List ℕ) (cell k : ℕ) → 6 ≤ length l
+    → same_bytes (part 0 6 l) (front cell k)
+    ≡ (eqb (get_or l 0 0) (get_or (plain 2 32 cell) 0 0)
+    && (eqb (get_or l 1 0) (get_or (plain 2 32 cell) 1 0)
+    && (eqb (get_or l 2 0) 32
+    && (eqb (get_or l 3 0) (get_or (plain 2 32 k) 0 0)
+    && (eqb (get_or l 4 0) (get_or (plain 2 32 k) 1 0) && eqb (get_or l 5 0) 32)))))
 unfolding same_bytes tab front plain columns
-front_read t at cell k h =
-    rw (part-tab t at 6 h) (rw (add-zero, and-true))
+front_read l cell k h = rw (part-tab l 0 6 h) (rw and-true)
 
--- A line within a text.
-module _ (t : List ℕ) (at : ℕ) (room : at + line_bytes ≤ length t) where
-  value_long : length (part (at + 6) 20 t) ≡ 20
+-- A text of a line's bytes.
+module _ (l : List ℕ) (long : length l ≡ line_bytes) where
+  value_long : length (part 6 20 l) ≡ 20
   value_long = simp (length-take, length-drop) (omega arith)
 
-  whole : part at line_bytes t ≡ part at 6 t ++ part (at + 6) 20 t ++ (get_or t (at + 26) 0 ∷ [])
+  whole : l ≡ part 0 6 l ++ part 6 20 l ++ (get_or l 26 0 ∷ [])
   whole =
-      take-suc (drop at t) 26 0 (simp length-drop (omega arith))
-      ∙ ap₂ (λ (l : List ℕ) (b : ℕ). l ++ (b ∷ []))
-      (take-add 6 20 (drop at t) ∙ ap (λ (l : List ℕ). part at 6 t ++ take 20 l) (drop-drop 6 at t))
-      (get_or-drop at t 26 0)
-
-  -- The parts of the line are parts of the text.
-  split : Parts (part at line_bytes t) (part at 6 t) (part (at + 6) 20 t) (get_or t (at + 26) 0)
-  split =
-      let front_long : length (part at 6 t) ≡ 6 = simp (length-take, length-drop) (omega arith) in
-      parts (part at line_bytes t) (part at 6 t) (part (at + 6) 20 t) (get_or t (at + 26) 0) front_long value_long whole
+      sym (take_all 27 l (omega arith))
+      ∙ take-suc l 26 0 (omega arith)
+      ∙ ap (λ (a : List ℕ). a ++ (get_or l 26 0 ∷ [])) (take-add 6 20 l)
 
   module _ (cell k : ℕ) where
     module _ (lowest highest : ℤ) where
       -- A text that is no line of this cell and place is refused.
-      no_line : ((z : ℤ) → part at line_bytes t ≡ line cell k z → ⊥)
-          → line_value (part at line_bytes t) cell k lowest highest ≡ none
+      no_line : ((z : ℤ) → l ≡ line cell k z → ⊥) → line_value l cell k lowest highest ≡ None
       unfolding line_value
-      no_line h =
-          let l = part at line_bytes t in
-          let n = parse lowest highest (part 6 20 l) in
-          let of_value = line cell k n.value in
-          go n.ok n (same_bytes l of_value) (λ e. h n.value (same_true l of_value e))
+      no_line h = go (parse lowest highest (part 6 20 l))
         where
-          go : (ok : Bool) (n : Decimal) (same : Bool) → (same ≡ true → ⊥) → cond (ok && same) n none ≡ none
-          go true n true h = absurd (h refl)
-          go true n false h = refl
-          go false n same h = refl
+          at : (z : ℤ) (b : Bool) → same_bytes l (line cell k z) ≡ b → cond b (Some z) None ≡ None
+          at z true e = absurd (h z (same_true l (line cell k z) e))
+          at z false e = refl
+
+          go : (n : Option ℤ) → option_and_then (λ z. cond (same_bytes l (line cell k z)) (Some z) None) n ≡ None
+          go None = refl
+          go (Some z) = at z (same_bytes l (line cell k z)) refl
 
       -- The bytes before the value are not those of this cell and line.
-      pub front_refused : same_bytes (part at 6 t) (front cell k) ≡ false
-          → line_value (part at line_bytes t) cell k lowest highest ≡ none
+      pub front_refused : same_bytes (part 0 6 l) (front cell k) ≡ false → line_value l cell k lowest highest ≡ None
       unfolding Parts
       front_refused e =
           no_line (λ z q.
-          let same = sym split.0 ∙ ap (part 0 6) q ∙ (line-parts cell k z).0 in
-          true≢false (sym (same_refl (front cell k)) ∙ ap (λ (l : List ℕ). same_bytes l (front cell k)) (sym same) ∙ e))
+          let same = ap (part 0 6) q ∙ (line-parts cell k z).0 in
+          true≢false (sym (same_refl (front cell k)) ∙ ap (λ (a : List ℕ). same_bytes a (front cell k)) (sym same) ∙ e))
 
       -- The last byte is no line feed.
-      pub end_refused : (get_or t (at + 26) 0 ≡ 10 → ⊥) → line_value (part at line_bytes t) cell k lowest highest ≡ none
+      pub end_refused : (get_or l 26 0 ≡ 10 → ⊥) → line_value l cell k lowest highest ≡ None
       unfolding Parts
-      end_refused h =
-          no_line (λ z q. h (sym split.2 ∙ ap (λ (l : List ℕ). get_or l 26 0) q ∙ (line-parts cell k z).2))
+      end_refused h = no_line (λ z q. h (ap (λ (a : List ℕ). get_or a 26 0) q ∙ (line-parts cell k z).2))
 
       -- Both are right: the line's value is that of its columns.
-      pub line_read : same_bytes (part at 6 t) (front cell k) ≡ true → get_or t (at + 26) 0 ≡ 10
-          → line_value (part at line_bytes t) cell k lowest highest ≡ parse lowest highest (part (at + 6) 20 t)
+      pub line_read : same_bytes (part 0 6 l) (front cell k) ≡ true → get_or l 26 0 ≡ 10
+          → line_value l cell k lowest highest ≡ parse lowest highest (part 6 20 l)
       unfolding line_value line Parts
-      line_read e feed =
-          rw split.1 (go (parse lowest highest (part (at + 6) 20 t)) (parse_only lowest highest _))
+      line_read e feed = go (parse lowest highest (part 6 20 l)) (parse_only lowest highest _)
         where
-          go : (n : Decimal) → Answers lowest highest (part (at + 6) 20 t) n
-              → cond (n.ok && same_bytes (part at line_bytes t) (line cell k n.value)) n none ≡ n
+          go : (n : Option ℤ) → Answers lowest highest (part 6 20 l) n
+              → option_and_then (λ z. cond (same_bytes l (line cell k z)) (Some z) None) n ≡ n
           go n refused = refl
           go n (read z text) =
-              let columns : part (at + 6) 20 t ≡ decimal 20 z = text.form ∙ ap (λ (w : ℕ). decimal w z) value_long in
-              let same : part at line_bytes t ≡ line cell k z =
-              whole ∙ rw (same_true (part at 6 t) (front cell k) e, columns, feed) refl in
-              rw (same, same_refl (line cell k z)) refl
+              let columns : part 6 20 l ≡ decimal 20 z = text.form ∙ ap (λ (w : ℕ). decimal w z) value_long in
+              let same : l ≡ line cell k z =
+              whole ∙ rw (same_true (part 0 6 l) (front cell k) e, columns, feed) refl in
+              let right : same_bytes l (line cell k z) ≡ true =
+              ap (λ (a : List ℕ). same_bytes a (line cell k z)) same ∙ same_refl (line cell k z) in
+              ap (λ (b : Bool). cond b (Some z) None) right

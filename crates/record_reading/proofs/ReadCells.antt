@@ -1,5 +1,5 @@
 -- What the reading loops find: the value on a line of a text, its range, a line more, a cell more. No assumptions.
-use mathlib.Core.Path.{◌≡◌, ap}
+use mathlib.Core.Path.{◌≡◌, sym, ap, ◌∙◌}
 use mathlib.Core.Bool.{true}
 use mathlib.Core.List.{List}
 use Prim.Native.Nat.{ℕ, ◌+◌, ◌-◌, ◌*◌, ◌≤◌, ◌<◌}
@@ -7,17 +7,20 @@ use native.Mathlib.Decide.{dec_lt}
 use native.Mathlib.Omega.{arith}
 use borrow.Author.Tests.{lt-ltb, le-ltb}
 use lib.IntN.{pos, nat_abs}
-use lib.ListN.{set}
+use lib.ListN.{set, take, drop}
 use lib.Signed.{◌≤ℤ◌}
+use Rattle.std.specs.Prelude.{ℤ, Option, Some, is_some, unwrap_or}
+use mir.Facts.{to_z-of_z}
 use Rattle.numeric.specs.Table.{run}
-use Rattle.numeric.proofs.Bounds.{abs_from, abs_of_nonneg}
+use Rattle.numeric.proofs.Bounds.{abs_from, abs_of_nonneg, fits_abs}
 use Rattle.numeric.proofs.Comparison.{le_z_true}
 use Rattle.numeric.proofs.Filling.{run_more}
+use Rattle.numeric.proofs.Machine.{kept}
 use Rattle.stoichiometry.specs.Substances.{substances, most_net}
 use Rattle.river.specs.Rivers.{most_carry}
 use Rattle.text.specs.Blocks.{part}
 use Rattle.record.specs.Lines.{lines, line_bytes, cell_bytes}
-use Rattle.record_reading.specs.Reading.{line_value, lowest_on, highest_on, value_at}
+use Rattle.record_reading.specs.Reading.{line_value, lowest_on, highest_on, value_at, number_at}
 use Rattle.record_reading.proofs.LineReading.{value_line}
 
 module _ (t : List ℕ) (c k : ℕ) where
@@ -30,30 +33,48 @@ module _ (t : List ℕ) (c k : ℕ) where
       ap (λ (at : ℕ). line_value (part at line_bytes t) (c + 1) (k + 1) (lowest_on k) (highest_on k)) place
 
   -- What is read is within its limits.
-  value_within : (value_at t c k).ok ≡ true
-      → (lowest_on k ≤ℤ (value_at t c k).value) × ((value_at t c k).value ≤ℤ highest_on k)
+  value_within : is_some (value_at t c k) ≡ true
+      → (lowest_on k ≤ℤ number_at t c k) × (number_at t c k ≤ℤ highest_on k)
   unfolding value_at
   value_within e =
       let l = part ((c * lines + k) * line_bytes) line_bytes t in
       let known = value_line l (c + 1) (k + 1) (lowest_on k) (highest_on k) e in
       (le_z_true (lowest_on k) _ known.1, le_z_true _ (highest_on k) known.2)
 
-  pub carry_range : substances ≤ k → (value_at t c k).ok ≡ true
-      → (pos 0 ≤ℤ (value_at t c k).value) × (nat_abs (value_at t c k).value ≤ most_carry)
+  pub carry_range : substances ≤ k → is_some (value_at t c k) ≡ true
+      → (pos 0 ≤ℤ number_at t c k) × (nat_abs (number_at t c k) ≤ most_carry)
   unfolding lowest_on highest_on
   carry_range h e =
       let known = rw (le-ltb k substances h) at (value_within e) in
-      (known.0, abs_of_nonneg (value_at t c k).value most_carry known.0 known.1)
+      (known.0, abs_of_nonneg (number_at t c k) most_carry known.0 known.1)
 
-  pub value_small : (value_at t c k).ok ≡ true → nat_abs (value_at t c k).value ≤ most_net
+  pub value_small : is_some (value_at t c k) ≡ true → nat_abs (number_at t c k) ≤ most_net
   unfolding lowest_on highest_on
   value_small e = at (dec_lt k substances)
     where
-      at : Dec (k < substances) → nat_abs (value_at t c k).value ≤ most_net
+      at : Dec (k < substances) → nat_abs (number_at t c k) ≤ most_net
       at (yes h) =
           let known = rw (lt-ltb k substances h) at (value_within e) in
-          abs_from (value_at t c k).value most_net known.0 known.1
+          abs_from (number_at t c k) most_net known.0 known.1
       at (no g) = let small = (carry_range (omega arith) e).1 in omega arith
+
+  -- What the loop reads of its line, with the limits as the machine keeps them.
+  pub value_found : (low high : ℤ) (width : ℕ) (r : Option ℤ) → kept low ≡ lowest_on k → kept high ≡ highest_on k
+      → width ≡ line_bytes
+      → r
+      ≡ line_value (take width (drop (c * cell_bytes + k * line_bytes) t)) (c + 1) (k + 1) (kept low) (kept high)
+      → r ≡ value_at t c k
+  value_found low high width r el eh ew e = rw (el, eh, ew) at e ∙ value_on
+
+  -- There is a value on the line: it is the line's number, and the machine keeps it.
+  pub value_some : (z : ℤ) → value_at t c k ≡ Some z → is_some (value_at t c k) ≡ true
+  value_some z e = ap is_some e
+
+  pub value_kept : (z : ℤ) → value_at t c k ≡ Some z → kept z ≡ number_at t c k
+  value_kept z e =
+      let same : number_at t c k ≡ z = ap (λ (o : Option ℤ). unwrap_or o (pos 0)) e in
+      let small = value_small (value_some z e) in
+      to_z-of_z (fits_abs z (omega (arith, small, ap nat_abs same))) ∙ sym same
 
 -- A line more of a cell, whose first lines are stored as amounts and those past them as carries.
 module _ {A : Type 0} (l m : List A) (b k : ℕ) (f : ℕ → A) where

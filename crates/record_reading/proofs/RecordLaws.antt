@@ -26,9 +26,9 @@ use Rattle.river.specs.Rivers.{most_cells, carry_at, cells_fit, river_wrong, mos
 use Rattle.river.proofs.Bounds.{fits_bound}
 use Rattle.river.proofs.Rivers.{river-cells, amount_fits_at, carry-fits_at, amount_zero_beyond, carry_zero_beyond}
 use Rattle.text.specs.Blocks.{part}
-use Rattle.text_reading.specs.Reading.{accepted}
+use Rattle.std.specs.Prelude.{Some, is_some}
 use Rattle.record.specs.Lines.{lines, line_bytes, cell_bytes, line, cell_text, value_of, record_of}
-use Rattle.record_reading.specs.Reading.{lowest_on, highest_on, value_at, cell_right, lines_right}
+use Rattle.record_reading.specs.Reading.{lowest_on, highest_on, value_at, number_at, cell_right, lines_right}
 use Rattle.record_reading.specs.Reading.{amounts_in, carries_in, cells_in, river_in, is_record, read_answer, cell_lines}
 use Rattle.record.proofs.LineLaws.{value_amount, value_carry, record_bytes}
 use Rattle.record_reading.proofs.LineReading.{line_value_lem, value_line}
@@ -67,7 +67,7 @@ module _ (r : River) (right : river_wrong r ≡ false) where
 
   -- Line k of cell c of the record of a river reads as the river's value.
   pub value_written : (c k : ℕ) → c < r.cells → k < lines
-      → value_at (record_of r) c k ≡ accepted (value_of r.amounts r.carries c k)
+      → value_at (record_of r) c k ≡ Some (value_of r.amounts r.carries c k)
   unfolding value_at record_of
   value_written c k h l =
       let a = value_allowed c k h l (dec_lt k substances) in
@@ -145,18 +145,18 @@ module _ (t : List ℕ) (right : is_record t ≡ true) where
 
   -- What is known of line k of cell c.
   line-right : (c k : ℕ) → c < cells_in t → k < lines
-      → let z = (value_at t c k).value in
+      → let z = number_at t c k in
       (part ((c * lines + k) * line_bytes) line_bytes t ≡ line (c + 1) (k + 1) z) × (le_z (lowest_on k) z ≡ true)
   unfolding lines_right value_at
   line-right c k h l =
       let cells = every_at (cells_in t) c (cell_right t) (record-parts t right).1 h in
-      let ok = every_at lines k (λ j. (value_at t c j).ok) cells l in
+      let ok = every_at lines k (λ j. is_some (value_at t c j)) cells l in
       let known = value_line _ (c + 1) (k + 1) (lowest_on k) (highest_on k) ok in
       (known.0, known.1)
 
   -- Its value is that of the river that the text reads to.
   value_read : (c k : ℕ) → c < cells_in t → k < lines → Dec (k < substances)
-      → value_of (river_in t).amounts (river_in t).carries c k ≡ (value_at t c k).value
+      → value_of (river_in t).amounts (river_in t).carries c k ≡ number_at t c k
   unfolding river_in amounts_in carries_in
   value_read c k h l (yes y) =
       let most = (river-cells (river_in t) river-read).1 in
@@ -168,7 +168,7 @@ module _ (t : List ℕ) (right : is_record t ≡ true) where
       value_carry (river_in t).amounts (river_in t).carries c k (omega arith)
       ∙ ap pos
       (grid_at_lem most_cells processes (cells_in t) 0 _ c (k - substances) 0 h (omega arith) (omega arith) ∙ rw place)
-      ∙ carry_from k (value_at t c k).value (omega arith) (line-right c k h l).1
+      ∙ carry_from k (number_at t c k) (omega arith) (line-right c k h l).1
 
   -- A text that is a record is, byte for byte, what is written of the river that it reads to.
   pub write_read : t ≡ record_of (river_in t)

@@ -22,25 +22,26 @@ pub fn read_record(text: &[u8]) -> Changed
     let n = text.len() / Record::CELL_BYTES;
     let mut amounts = [0; AMOUNTS];
     let mut carries = [0; CARRIES];
-    if read_cells(text, n, &mut amounts, &mut carries) {
-        let cells = n as u32;
-        if !river_fits(cells, &amounts, &carries) {
-            return no_record();
-        }
-        let river = River {
-            cells,
-            amounts,
-            carries,
-        };
-        return Changed {
-            number: refusal::NONE,
-            river,
-        };
+    let Some(()) = read_cells(text, n, &mut amounts, &mut carries) else {
+        return no_record();
+    };
+    let cells = n as u32;
+    if !river_fits(cells, &amounts, &carries) {
+        return no_record();
     }
-    no_record()
+    let river = River {
+        cells,
+        amounts,
+        carries,
+    };
+    Changed {
+        number: refusal::NONE,
+        river,
+    }
 }
 
-// The number that goes with `lines_of_cell`: 11, then 5, or 0. Cells are counted from 1.
+// The number that goes with `lines_of_cell`: 11, then 5, or 0. Cells are counted from 1. The scope asks for the part of
+// the text alone, empty on a refusal, and for this companion call: hence two calls, and no `Result`.
 pub fn number_of_cell(text: &[u8], cell: u32) -> u32
     ensures answer { result ≡ cell_number text.now cell }
 {

@@ -10,7 +10,7 @@ use crate::sets::conditions_of;
 use page::Page;
 use record::Record;
 use river::River;
-use stoichiometry::Set;
+use stoichiometry::{Set, number_of};
 
 pub(crate) fn step_turn(set: Set, river: River, sum: u64, turn: u64) -> u64 {
     let answer = step::step_river(set, river, conditions_of(turn));
@@ -68,15 +68,15 @@ pub(crate) fn write_turn(
     sum: u64,
     turn: u64,
 ) -> u64 {
-    let number = record::write_record(river, output, work);
-    let with_number = with(sum, number as u64);
+    let answer = record::write_record(river, output, work);
+    let with_number = with(sum, number_of(&answer) as u64);
     let with_output = with_text(with_number, output, Record::CELL_BYTES as u64, turn);
     with_text(with_output, work, Record::CELL_BYTES as u64, turn)
 }
 
 pub(crate) fn page_turn(river: River, output: &mut [u8; PAGE_BYTES], sum: u64, turn: u64) -> u64 {
-    let number = page::write_page(river, output);
-    let with_number = with(sum, number as u64);
+    let answer = page::write_page(river, output);
+    let with_number = with(sum, number_of(&answer) as u64);
     with_text(with_number, output, Page::ROW_BYTES as u64, turn)
 }
 

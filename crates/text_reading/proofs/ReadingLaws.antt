@@ -9,16 +9,18 @@ use mathlib.Core.Path.{◌≡◌, refl, sym, ap, ap₂, ◌∙◌, subst}
 use native.Mathlib.Nat.{one-le-pow, pow-suc}
 use native.Mathlib.Numerals.{add-one}
 use native.Mathlib.Omega.{arith}
-use borrow.Author.Tests.{lt-ltb, le-ltb, le-leb, ne_eqb, eqb-true, eqb-false, ltb-true, ltb-false}
+use borrow.Author.Tests.{lt-ltb, le-ltb, le-leb, ne_eqb, eqb-true, eqb-false, leb-true, ltb-true, ltb-false}
 use lib.Dec.{leb, ltb, eqb}
-use lib.IntN.{ℤ, pos, negsuc, nat_abs}
+use lib.IntN.{ℤ, pos, negsuc, neg_ℤ, nat_abs}
 use lib.ListN.{length, length-append}
 use lib.Signed.{le_z}
+use Rattle.numeric.proofs.Bounds.{abs_neg}
 use Rattle.numeric.proofs.CheckLaws.{and_left, and_right}
-use Rattle.text_reading.specs.declared.Decimal.{Decimal}
+use Rattle.std.specs.Prelude.{Option, Some, None, option_and_then}
 use Rattle.text.specs.Decimals.{glyph, next_mark, columns, plain, decimal}
 use Rattle.text_reading.specs.Reading.{Seen, cols, lone_zero, bad, most, is_digit, digit, other, next, run_on, start}
-use Rattle.text_reading.specs.Reading.{accepted, none, signed, within, finish, parse}
+use Rattle.text_reading.specs.Inner.Digits.{largest}
+use Rattle.text_reading.specs.Reading.{signed, finish, value_of, within, parse}
 
 pub run-append : (s : Seen) (xs ys : List ℕ) → run_on s (xs ++ ys) ≡ run_on (run_on s xs) ys
 unfolding run_on
@@ -84,15 +86,15 @@ minus_run (suc i) (suc r) k l =
     last_run (suc i) 45 r (minus_run i (suc r / 10) (omega arith) (omega arith)) l
 
 module _ (lowest highest : ℤ) where
-  pub within_passed : (z : ℤ) → le_z lowest z && le_z z highest ≡ true → within lowest highest z ≡ accepted z
+  pub within_passed : (z : ℤ) → le_z lowest z && le_z z highest ≡ true → within lowest highest z ≡ Some z
   unfolding within
   within_passed z h = rw h refl
 
-  pub within_refused : (z : ℤ) → le_z lowest z && le_z z highest ≡ false → within lowest highest z ≡ none
+  pub within_refused : (z : ℤ) → le_z lowest z && le_z z highest ≡ false → within lowest highest z ≡ None
   unfolding within
   within_refused z h = rw h refl
 
-  finish-cols : (m n : ℕ) → finish lowest highest (cols m (suc n)) ≡ within lowest highest (signed m (suc n))
+  finish-cols : (m n : ℕ) → finish (cols m (suc n)) ≡ Some (signed m (suc n))
   unfolding finish
   finish-cols m n = rw (ne_eqb (suc n) 0 (λ e. omega arith)) refl
 
@@ -100,24 +102,24 @@ module _ (lowest highest : ℤ) where
   pub parse_plain : (w n : ℕ) → le_z lowest (pos n) ≡ true → le_z (pos n) highest ≡ true
       → n / 10 < 10 ^ w
       → n / 10 ≤ most
-      → parse lowest highest (decimal (suc w) (pos n)) ≡ accepted (pos n)
-  unfolding parse decimal plain signed finish next
+      → parse lowest highest (decimal (suc w) (pos n)) ≡ Some (pos n)
+  unfolding parse value_of decimal plain signed finish next
   parse_plain w zero a b k l =
       rw (run_snoc start (columns w 32 0) 48, blank_run w 0 k (omega arith)) (within_passed (pos 0) (ap₂ ◌&&◌ a b))
   parse_plain w (suc n) a b k l =
       rw (last_run w 32 n (blank_run w (suc n / 10) k (omega arith)) l)
-      (finish-cols 32 n ∙ within_passed (pos (suc n)) (ap₂ ◌&&◌ a b))
+      (ap (option_and_then (within lowest highest)) (finish-cols 32 n) ∙ within_passed (pos (suc n)) (ap₂ ◌&&◌ a b))
 
   -- Any value, with one column more for a minus.
   pub parse-decimal : (w : ℕ) (z : ℤ) → le_z lowest z ≡ true → le_z z highest ≡ true
       → nat_abs z / 10 < 10 ^ w
       → nat_abs z / 10 ≤ most
-      → parse lowest highest (decimal (suc (suc w)) z) ≡ accepted z
-  unfolding parse decimal plain signed
+      → parse lowest highest (decimal (suc (suc w)) z) ≡ Some z
+  unfolding parse value_of decimal plain signed
   parse-decimal w (pos n) a b k l = parse_plain (suc w) n a b (rw (pow-suc 10 w) (omega arith)) l
   parse-decimal w (negsuc n) a b k l =
       rw (last_run (suc w) 45 n (minus_run w (suc n / 10) k (omega arith)) l)
-      (finish-cols 45 n ∙ within_passed (negsuc n) (ap₂ ◌&&◌ a b))
+      (ap (option_and_then (within lowest highest)) (finish-cols 45 n) ∙ within_passed (negsuc n) (ap₂ ◌&&◌ a b))
 
 -- And nothing else passes: what was seen of the bytes xs says which columns they are.
 Reads : List ℕ → Seen → Type 0
@@ -201,6 +203,63 @@ unfolding run_on
 run_reads [] xs s h = rw append-nil h
 run_reads (y ∷ ys) xs s h = rw append_assoc at (run_reads ys (xs ++ (y ∷ [])) (next s y) (next_reads xs s y h))
 
+-- A value that is read is at most the largest.
+Bounded : Seen → Type 0
+Bounded (cols m r) = r ≤ largest
+Bounded lone_zero = Unit {0}
+Bounded bad = Unit {0}
+
+next_bounded : (s : Seen) (b : ℕ) → Bounded s → Bounded (next s b)
+unfolding Bounded next digit other
+next_bounded (cols m r) b h =
+    by_cases Bounded (is_digit b) _ _
+    (λ e.
+    by_cases Bounded (eqb (r + (b - 48)) 0) _ _ (λ f. by_cases Bounded (eqb m 32) _ _ (λ g. tt) (λ g. tt))
+    (λ f. by_cases Bounded (leb r most) _ _ (λ g. omega (arith, digit_range b e, leb-true r most g)) (λ g. tt)))
+    (λ e.
+    by_cases Bounded (eqb r 0) _ _
+    (λ f.
+    by_cases Bounded (eqb m 32) _ _
+    (λ g. by_cases Bounded (eqb b 32) _ _ (λ i. omega arith)
+    (λ i. by_cases Bounded (eqb b 45) _ _ (λ j. omega arith) (λ j. tt)))
+    (λ g. tt))
+    (λ f. tt))
+next_bounded lone_zero b h = tt
+next_bounded bad b h = tt
+
+run_bounded : (xs : List ℕ) (s : Seen) → Bounded s → Bounded (run_on s xs)
+unfolding run_on
+run_bounded [] s h = h
+run_bounded (x ∷ xs) s h = run_bounded xs (next s x) (next_bounded s x h)
+
+Small : Option ℤ → Type 0
+Small o = (z : ℤ) → o ≡ Some z → nat_abs z ≤ largest
+
+value_is : {x y : ℤ} → Some x ≡ Some y → x ≡ y
+value_is q = cc
+
+small_some : (x : ℤ) → nat_abs x ≤ largest → Small (Some x)
+unfolding Small
+small_some x h z q = rw (value_is q) at h
+
+small_none : Small None
+unfolding Small
+small_none z q = absurd (cc)
+
+finish_bounded : (s : Seen) → Bounded s → Small (finish s)
+unfolding Bounded finish signed
+finish_bounded (cols m r) h =
+    by_cases Small (eqb r 0) _ _ (λ e. small_none)
+    (λ e.
+    by_cases (λ (x : ℤ). Small (Some x)) (eqb m 45) _ _
+    (λ f. small_some (neg_ℤ (pos r)) (omega (arith, abs_neg (pos r)))) (λ f. small_some (pos r) h))
+finish_bounded lone_zero h = small_some (pos 0) (omega arith)
+finish_bounded bad h = small_none
+
+pub value_bound : (t : List ℕ) (z : ℤ) → value_of t ≡ Some z → nat_abs z ≤ largest
+unfolding value_of Bounded Small
+value_bound t = finish_bounded (run_on start t) (run_bounded t start (omega arith))
+
 signed_decimal : (n m r : ℕ) → (r ≡ 0 → ⊥) → (m ≡ 32) ⊎ (m ≡ 45) → columns n m r ≡ decimal n (signed m r)
 unfolding columns plain glyph next_mark decimal signed
 signed_decimal n m zero h q = absurd (h refl)
@@ -215,9 +274,9 @@ pub record DecimalText (lowest highest : ℤ) (t : List ℕ) (z : ℤ) : Type 0 
   pub to : le_z z highest ≡ true
 
 -- An answer of the reader for the text t: none, or the value that t is the text of.
-pub data Answers (lowest highest : ℤ) (t : List ℕ) : Decimal → Type 0 where
-  refused : Answers lowest highest t none
-  read : (z : ℤ) → DecimalText lowest highest t z → Answers lowest highest t (accepted z)
+pub data Answers (lowest highest : ℤ) (t : List ℕ) : Option ℤ → Type 0 where
+  refused : Answers lowest highest t None
+  read : (z : ℤ) → DecimalText lowest highest t z → Answers lowest highest t (Some z)
 
 module _ (lowest highest : ℤ) (t : List ℕ) where
   within_answers : (z : ℤ) → t ≡ decimal (length t) z → Answers lowest highest t (within lowest highest z)
@@ -229,14 +288,15 @@ module _ (lowest highest : ℤ) (t : List ℕ) where
       (λ f. read z (record { form = e; from = and_left low high f; to = and_right low high f }))
       (λ f. refused)
 
-  finish_answers : (s : Seen) → Reads t s → Answers lowest highest t (finish lowest highest s)
+  finish_answers : (s : Seen) → Reads t s → Answers lowest highest t (option_and_then (within lowest highest) (finish s))
   unfolding finish Reads decimal
   finish_answers (cols m r) h =
-      by_cases (Answers lowest highest t) (eqb r 0) _ _ (λ e. refused)
+      by_cases (λ (o : Option ℤ). Answers lowest highest t (option_and_then (within lowest highest) o)) (eqb r 0) _ _
+      (λ e. refused)
       (λ e. within_answers (signed m r) (h.0 ∙ signed_decimal (length t) m r (eqb-false r 0 e) h.1))
   finish_answers lone_zero h = within_answers (pos 0) h
   finish_answers bad h = refused
 
   pub parse_only : Answers lowest highest t (parse lowest highest t)
-  unfolding parse Reads columns
+  unfolding parse value_of Reads columns
   parse_only = finish_answers (run_on start t) (run_reads t [] start (refl, inl refl))

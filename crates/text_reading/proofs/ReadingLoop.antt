@@ -1,18 +1,22 @@
 -- What the reading functions do at each byte: the blanks, the mark, a zero. `stuck` is a return at a byte that no
 -- decimal has there, `ended` the end of the text. The digits after them: DigitLoop.antt. No assumptions.
-use Prim.Native.Nat.{ℕ, ◌+◌, ◌≤◌, ◌<◌}
-use mathlib.Core.Bool.{Bool, true, false}
+use Prim.Native.Nat.{ℕ, zero, suc, ◌+◌, ◌≤◌, ◌<◌}
+use mathlib.Core.Bool.{Bool, true, false, true≢false}
 use mathlib.Core.List.{List, ◌++◌}
 use mathlib.Core.Path.{◌≡◌, refl, sym, ap, ◌∙◌}
 use native.Mathlib.Numerals.{add-one}
 use native.Mathlib.Omega.{arith}
-use borrow.Author.Tests.{ne_eqb, eqb-true, eqb-false}
+use borrow.Author.Tests.{ne_eqb, eq-eqb, eqb-true, eqb-false}
 use lib.Dec.{eqb}
-use lib.IntN.{ℤ, pos}
+use lib.IntN.{pos}
+use Rattle.std.specs.List.{prefix_len}
+use Rattle.std.proofs.lemmas.List.Folds.{length-prefix_len}
+use Rattle.std.proofs.lemmas.List.Sums.{prefix_len-le-length, prefix_len_passes, prefix_len_stops}
 use lib.ListN.{length, take, drop, get_or, take-append-drop}
 use lib.Seq.{take-suc, take_all}
+use Rattle.std.specs.Prelude.{◌==◌, Some, None, take_while}
 use Rattle.text_reading.specs.Reading.{Seen, cols, lone_zero, bad, digit, other, next, run_on, start}
-use Rattle.text_reading.specs.Reading.{none, within, finish, parse}
+use Rattle.text_reading.specs.Reading.{finish, value_of}
 use Rattle.text_reading.specs.Inner.Stages.{LeadingBlanks, DigitsFrom}
 use Rattle.text_reading.proofs.ReadingLaws.{run-append, run_snoc, run-bad}
 
@@ -20,34 +24,51 @@ pub run_turn : (t : List ℕ) (i : ℕ) (s : Seen) → i < length t → run_on s
     → run_on start (take (i + 1) t) ≡ next s (get_or t i 0)
 run_turn t i s h e = rw (add-one i, take-suc t i 0, run_snoc start (take i t) (get_or t i 0), e)
 
-module _ (lowest highest : ℤ) (t : List ℕ) (i : ℕ) where
+module _ (t : List ℕ) (i : ℕ) where
   -- Where no decimal begins so, there is none.
-  pub lost : run_on start (take i t) ≡ bad → parse lowest highest t ≡ none
-  unfolding parse finish
+  pub lost : run_on start (take i t) ≡ bad → value_of t ≡ None
+  unfolding value_of finish
   lost e =
       let on : run_on start (take i t ++ drop i t) ≡ bad =
       rw (run-append start (take i t) (drop i t), e) (run-bad (drop i t)) in
-      ap (finish lowest highest) (rw take-append-drop at on)
+      ap finish (rw take-append-drop at on)
 
   -- After the last byte.
-  pub ended : (s : Seen) → length t ≤ i → run_on start (take i t) ≡ s → parse lowest highest t ≡ finish lowest highest s
-  unfolding parse
-  ended s h e = ap (finish lowest highest) (ap (run_on start) (sym (take_all i t h)) ∙ e)
+  pub ended : (s : Seen) → length t ≤ i → run_on start (take i t) ≡ s → value_of t ≡ finish s
+  unfolding value_of
+  ended s h e = ap finish (ap (run_on start) (sym (take_all i t h)) ∙ e)
 
 -- After a byte that no decimal has there, there is none.
-pub stuck : (lowest highest : ℤ) (t : List ℕ) (i : ℕ) (s : Seen) → i < length t → run_on start (take i t) ≡ s
-    → next s (get_or t i 0) ≡ bad → parse lowest highest t ≡ none
-stuck lowest highest t i s h e b = lost lowest highest t (i + 1) (run_turn t i s h e ∙ b)
+pub stuck : (t : List ℕ) (i : ℕ) (s : Seen) → i < length t → run_on start (take i t) ≡ s
+    → next s (get_or t i 0) ≡ bad → value_of t ≡ None
+stuck t i s h e b = lost t (i + 1) (run_turn t i s h e ∙ b)
 
 after_zero : (b : ℕ) → next lone_zero b ≡ bad
 unfolding next
 after_zero b = refl
 
--- The loop over the blanks, and what comes after it.
-pub blanks_turn : (t : List ℕ) (i : ℕ) → i < length t → get_or t i 0 ≡ 32 → run_on start (take i t) ≡ cols 32 0
-    → run_on start (take (i + 1) t) ≡ cols 32 0
-unfolding next
-blanks_turn t i l e h = run_turn t i (cols 32 0) l h ∙ ap (next (cols 32 0)) e
+-- The blanks that a text begins with, and what comes after them.
+abbrev pub blank : ℕ → Bool
+blank b = b == 32
+
+blanks_run : (t : List ℕ) (i : ℕ) → ((k : ℕ) → k < i → blank (get_or t k 0) ≡ true) → i ≤ length t
+    → run_on start (take i t) ≡ cols 32 0
+unfolding run_on next
+blanks_run t zero h l = refl
+blanks_run t (suc i) h l =
+    ap (λ (n : ℕ). run_on start (take n t)) (sym (add-one i))
+    ∙ run_turn t i (cols 32 0) (omega arith) (blanks_run t i (λ k b. h k (omega arith)) (omega arith))
+    ∙ ap (next (cols 32 0)) (eqb-true (get_or t i 0) 32 (h i (omega arith)))
+
+pub leading_blanks : (t : List ℕ) → LeadingBlanks t (length (take_while blank t))
+leading_blanks t =
+    rw length-prefix_len
+    (record {
+      within = prefix_len-le-length blank t;
+      seen =
+          blanks_run t (prefix_len blank t) (λ k h. prefix_len_passes blank t k 0 h) (prefix_len-le-length blank t);
+      stop = λ l e. true≢false (sym (eq-eqb _ 32 e) ∙ prefix_len_stops blank t 0 l);
+    })
 
 pub digits_from_minus : (t : List ℕ) (i : ℕ) → LeadingBlanks t i → i < length t → get_or t i 0 ≡ 45
     → DigitsFrom t (i + 1) 45
@@ -70,28 +91,28 @@ digits_from_blanks t i h k =
     }
 
 -- The exits before the first digit.
-module _ (lowest highest : ℤ) (t : List ℕ) (i m : ℕ) (h : DigitsFrom t i m) where
-  pub empty_none : length t ≤ i → parse lowest highest t ≡ none
+module _ (t : List ℕ) (i m : ℕ) (h : DigitsFrom t i m) where
+  pub empty_none : length t ≤ i → value_of t ≡ None
   unfolding finish
-  empty_none l = ended lowest highest t i (cols m 0) l h.seen
+  empty_none l = ended t i (cols m 0) l h.seen
 
-  pub minus_zero_none : i < length t → get_or t i 0 ≡ 48 → (m ≡ 32 → ⊥) → parse lowest highest t ≡ none
+  pub minus_zero_none : i < length t → get_or t i 0 ≡ 48 → (m ≡ 32 → ⊥) → value_of t ≡ None
   unfolding next digit
   minus_zero_none l e q =
-      stuck lowest highest t i (cols m 0) l h.seen (ap (next (cols m 0)) e ∙ rw (ne_eqb m 32 q) refl)
+      stuck t i (cols m 0) l h.seen (ap (next (cols m 0)) e ∙ rw (ne_eqb m 32 q) refl)
 
   zero_seen : i < length t → get_or t i 0 ≡ 48 → m ≡ 32 → run_on start (take (i + 1) t) ≡ lone_zero
   unfolding next
   zero_seen l e q = run_turn t i (cols m 0) l h.seen ∙ rw (e, q) refl
 
-  pub zeros-none : i + 1 < length t → get_or t i 0 ≡ 48 → parse lowest highest t ≡ none
+  pub zeros-none : i + 1 < length t → get_or t i 0 ≡ 48 → value_of t ≡ None
   zeros-none l e = at (eqb m 32) refl
     where
-      at : (b : Bool) → eqb m 32 ≡ b → parse lowest highest t ≡ none
-      at true q = stuck lowest highest t (i + 1) lone_zero l (zero_seen (omega arith) e (eqb-true m 32 q)) (after_zero _)
+      at : (b : Bool) → eqb m 32 ≡ b → value_of t ≡ None
+      at true q = stuck t (i + 1) lone_zero l (zero_seen (omega arith) e (eqb-true m 32 q)) (after_zero _)
       at false q = minus_zero_none (omega arith) e (eqb-false m 32 q)
 
   pub zero_read : i < length t → length t ≤ i + 1 → get_or t i 0 ≡ 48 → m ≡ 32
-      → parse lowest highest t ≡ within lowest highest (pos 0)
+      → value_of t ≡ Some (pos 0)
   unfolding finish
-  zero_read l k e q = ended lowest highest t (i + 1) lone_zero k (zero_seen l e q)
+  zero_read l k e q = ended t (i + 1) lone_zero k (zero_seen l e q)

@@ -2,9 +2,8 @@
 -- passes is exactly what text's Decimals.antt writes, within two limits (proofs/ReadingLaws.antt: `parse-decimal`,
 -- `parse_plain`, `parse_only`). "-0", "00", "+1", a blank after a digit and a text without a digit are refused.
 -- No assumptions.
-use Rattle.std.specs.Prelude.{ℕ, ◌+◌, ◌-◌, ◌*◌, Bool, true, false, cond, ◌&&◌, List, [], ◌∷◌, leb, ltb, eqb, ℤ, pos, neg_ℤ}
+use Rattle.std.specs.Prelude.{ℕ, ◌+◌, ◌-◌, ◌*◌, Bool, false, cond, ◌&&◌, List, [], ◌∷◌, leb, ltb, eqb, ℤ, pos, neg_ℤ, Option, Some, None, option_and_then}
 use Rattle.std.specs.Int.Signed.{le_z}
-use Rattle.text_reading.specs.declared.Decimal.{Decimal}
 
 -- What was seen so far: the columns of a mark and of the digits' value, a zero that stands alone, or what no decimal
 -- begins with. LeadingBlanks alone are `cols 32 0`, a minus after them `cols 45 0`.
@@ -46,29 +45,27 @@ run_on s (b ∷ bs) = run_on (next s b) bs
 abbrev pub start : Seen
 start = cols 32 0
 
--- The answers of the reader: a value, or none.
-abbrev pub accepted : ℤ → Decimal
-accepted z = record { ok = true; value = z }
-
-abbrev pub none : Decimal
-none = record { ok = false; value = pos 0 }
-
 -- The value with its mark.
 unfoldable pub signed : ℕ → ℕ → ℤ
 signed m n = cond (eqb m 45) (neg_ℤ (pos n)) (pos n)
 
--- A value is accepted from the lowest to the highest.
-unfoldable pub within : ℤ → ℤ → ℤ → Decimal
-within lowest highest z = cond (le_z lowest z && le_z z highest) (accepted z) none
+-- The value after the last byte: without a digit there is none.
+unfoldable pub finish : Seen → Option ℤ
+unfolding signed
+finish (cols m r) = cond (eqb r 0) None (Some (signed m r))
+finish lone_zero = Some (pos 0)
+finish bad = None
 
--- The answer after the last byte: without a digit there is no value.
-unfoldable pub finish : ℤ → ℤ → Seen → Decimal
-unfolding signed within
-finish lowest highest (cols m r) = cond (eqb r 0) none (within lowest highest (signed m r))
-finish lowest highest lone_zero = within lowest highest (pos 0)
-finish lowest highest bad = none
+-- The value that the columns t are the text of, if there is one.
+unfoldable pub value_of : List ℕ → Option ℤ
+unfolding finish run_on
+value_of t = finish (run_on start t)
+
+-- A value is accepted from the lowest to the highest.
+unfoldable pub within : ℤ → ℤ → ℤ → Option ℤ
+within lowest highest z = cond (le_z lowest z && le_z z highest) (Some z) None
 
 -- The value that the columns t are the text of, if there is one from `lowest` to `highest`.
-unfoldable pub parse : ℤ → ℤ → List ℕ → Decimal
-unfolding finish run_on
-parse lowest highest t = finish lowest highest (run_on start t)
+unfoldable pub parse : ℤ → ℤ → List ℕ → Option ℤ
+unfolding value_of within
+parse lowest highest t = option_and_then (within lowest highest) (value_of t)

@@ -186,8 +186,8 @@ impl Day {
         write_letters(rt, self.letter(1), self.letter(2))?;
         let mut output = [0; BYTES];
         let mut work = [0; BYTES];
-        let number = record::write_record(river, &mut output, &mut work);
-        write_call(rt, b"record ", number)?;
+        let written = record::write_record(river, &mut output, &mut work);
+        write_call(rt, b"record ", number_of(&written))?;
         rt.write_all(&output)?;
         Ok(())
     }

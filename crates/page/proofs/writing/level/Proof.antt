@@ -1,6 +1,5 @@
 -- `writing::level` meets its contract: an amount that is not negative is its size, and its level fits. No assumptions.
 use Prim.Native.Nat.{◌+◌, ◌*◌}
-use mathlib.Core.Path.{◌≡◌}
 use native.Mathlib.Omega.{arith}
 use lib.IntN.{ℤ, pos}
 use lib.ListN.{get_or}

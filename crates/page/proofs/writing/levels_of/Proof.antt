@@ -1,6 +1,6 @@
 -- `writing::levels_of` meets its contract: each level is that of its substance. No assumptions.
 use Prim.Native.Nat.{ℕ, ◌<◌, ◌/◌, ◌≤◌}
-use mathlib.Core.Path.{◌≡◌, ◌∙◌}
+use mathlib.Core.Path.{◌∙◌}
 use native.Mathlib.Nat.{div-one}
 use native.Mathlib.Omega.{arith}
 use lib.Dec.{lit<, lit≤}

@@ -1,6 +1,6 @@
 -- `writing::write_row` meets its contract: a row written over its part of the text. No assumptions.
 use Prim.Native.Nat.{◌+◌, ◌-◌}
-use mathlib.Core.Path.{◌≡◌, ◌∙◌}
+use mathlib.Core.Path.{◌≡◌}
 use native.Mathlib.Omega.{arith}
 use lib.ListN.{length, take, drop, length-set, length-take, length-drop}
 use Rattle.text.proofs.WriteLaws.{part_written}

@@ -1,0 +1,63 @@
+-- `read_cell` meets its contract: a line without a value, or a line more (proofs/ReadCells.antt). No assumptions.
+use Rattle.std.proofs.Common.{◌≡◌, ◌+◌, ◌-◌, ℕ, sym, ap, ◌∙◌, arith, is_some, nat_abs}
+use lib.Signed.{yes_non_neg}
+use mir.Facts.{Fits-below}
+use Rattle.numeric.proofs.CheckLaws.{every-none, every_more, every_fails}
+use Rattle.numeric.proofs.Filling.{run_none}
+use Rattle.numeric.proofs.Machine.{result_is}
+use Rattle.stoichiometry.specs.Substances.{substances}
+use Rattle.record.specs.Lines.{lines}
+use Rattle.record_reading.specs.Reading.{number_at}
+use Rattle.record_reading.proofs.ReadCells.{value_found, value_some, value_kept, carry_range}
+use Rattle.record_reading.proofs.ReadCells.{amount_stored, amounts_kept, carry_stored, carries_kept}
+use Rattle.record_reading.proofs.reading.read_cell.Goals as goal
+use Rattle.record_reading.proofs.reading.read_cell.Goals.{then-k-lt-SUBSTANCES, else-k-lt-SUBSTANCES}
+
+pub loop-k-init : goal.loop-k-init
+loop-k-init c = (every-none _, run_none _ _ _, run_none _ _ _)
+
+-- A line has no value.
+pub returns-in_err-value-clause-value : goal.returns-in_err-value-clause-value
+returns-in_err-value-clause-value c =
+    let k = c.loop-k.k in
+    let found = value_found c.args.text.now c.args.c k c.lowest_on.result c.highest_on.result _ _
+    (result_is _ c.lowest_on.ensures c.lowest_on.type_inv) (result_is _ c.highest_on.ensures c.highest_on.type_inv)
+    (omega arith) c.line_value.ensures in
+    ap is_some c.from_residual.ensures
+    ∙ sym (every_fails lines _ _ c.loop-k-test.true (ap is_some (sym found ∙ c.in_err-value.was)))
+
+pub overflow_cast-carries : goal.overflow_cast-carries
+overflow_cast-carries c =
+    let k = c.loop-k.k in
+    let found = value_found c.args.text.now c.args.c k c.lowest_on.result c.highest_on.result _ _
+    (result_is _ c.lowest_on.ensures c.lowest_on.type_inv) (result_is _ c.highest_on.ensures c.highest_on.type_inv)
+    (omega arith) c.line_value.ensures in
+    let some = sym found ∙ c.in_ok-value.was in
+    let range = carry_range c.args.text.now c.args.c k c.if-k-lt-SUBSTANCES.false (value_some _ _ k _ some) in
+    rw (value_kept _ _ k _ some) (yes_non_neg range.0, Fits-below {n = 1000000} tt (omega (arith, range.1)))
+
+pub loop-k-preserved : goal.loop-k-preserved
+loop-k-preserved c =
+    let k = c.loop-k.k in
+    let found = value_found c.args.text.now c.args.c k c.lowest_on.result c.highest_on.result _ _
+    (result_is _ c.lowest_on.ensures c.lowest_on.type_inv) (result_is _ c.highest_on.ensures c.highest_on.type_inv)
+    (omega arith) c.line_value.ensures in
+    let some = sym found ∙ c.in_ok-value.was in
+    let kept = value_kept c.args.text.now c.args.c k c.in_ok-value.value some in
+    let more = every_more k _ c.loop-k.invariant.0 (value_some c.args.text.now c.args.c k c.in_ok-value.value some) in
+    elim c.if-k-lt-SUBSTANCES.branch [
+      | then-k-lt-SUBSTANCES w ↦
+          let h = w.if-k-lt-SUBSTANCES.true in (
+            more,
+            w.amounts-is ∙ amount_stored _ _ _ k _ h c.loop-k.invariant.1 _ kept,
+            w.carries-is ∙ carries_kept _ _ _ k _ h c.loop-k.invariant.2,
+          )
+      | else-k-lt-SUBSTANCES w ↦
+          let h = w.if-k-lt-SUBSTANCES.false in
+          let line : substances + (k - substances) ≡ k = omega arith in
+          let at_line = ap (λ (q : ℕ). nat_abs (number_at c.args.text.now c.args.c q)) (sym line) in (
+            more,
+            w.amounts-is ∙ amounts_kept _ _ _ k _ h c.loop-k.invariant.1,
+            w.carries-is ∙ carry_stored _ _ _ k _ h c.loop-k.invariant.2 _ (ap nat_abs kept ∙ at_line),
+          )
+    ]
