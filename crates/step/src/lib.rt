@@ -38,13 +38,12 @@ pub fn step_river(set: Set, river: River, conditions: Conditions) -> Changed
     let fit = step_cells(
         set,
         conditions,
-        river.cells,
         &rows.entries,
-        &river.amounts,
-        &river.carries,
+        &river,
         &mut amounts,
         &mut rest,
-    );
+    )
+    .is_ok();
     if !fit {
         return answered(refusal::BATCHES, river);
     }

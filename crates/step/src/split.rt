@@ -1,11 +1,9 @@
 // Whole batches and new carries from extents and old carries, and check 7.
-ghost use Rattle.std.specs.Prelude.{◌≡◌, ◌+◌, ◌*◌, ◌/◌, ◌%◌, ◌≤◌};
-ghost use Rattle.numeric.specs.Check.{every};
+ghost use Rattle.std.specs.Prelude.{◌≡◌, ◌+◌, ◌*◌, ◌/◌, ◌%◌, ◌≤◌, ◌↔◌, pos, IsTrue};
 ghost use Rattle.numeric.specs.Table.{run};
 ghost use Rattle.stoichiometry.specs.Rows.{processes};
 ghost use Rattle.river.specs.Rivers.{most_cells, most_carry};
-ghost use Rattle.step.specs.Inner.Stepping.{most_extent, ExtentsFit, CarriesFit, whole_of, rest_of, batch_fits};
-ghost use Rattle.step.specs.Inner.Stepping.{cell_batches_fit};
+ghost use Rattle.step.specs.Inner.Stepping.{most_extent, ExtentsFit, CarriesFit, whole_of, rest_of, Pass};
 
 use river::{CARRIES, River};
 use stoichiometry::PROCESSES;
@@ -13,19 +11,13 @@ use stoichiometry::PROCESSES;
 // One batch, in millionths.
 const BATCH: u64 = 1000000;
 
-// The whole batches of a carry with an extent added, and the carry that is left.
-fn whole_of(carry: u32, extent: u64) -> u64
+// A carry with an extent added: its whole batches, and the carry that is left.
+fn divided(carry: u32, extent: u64) -> (i64, u32)
     requires { (carry ≤ most_carry) × (extent ≤ most_extent) }
-    ensures { result ≡ (carry + extent) / 1000000 }
+    ensures { result ≡ (pos ((carry + extent) / 1000000), (carry + extent) % 1000000) }
 {
-    (carry as u64 + extent) / BATCH
-}
-
-fn rest_of(carry: u32, extent: u64) -> u32
-    requires { (carry ≤ most_carry) × (extent ≤ most_extent) }
-    ensures { result ≡ (carry + extent) % 1000000 }
-{
-    ((carry as u64 + extent) % BATCH) as u32
+    let carried = carry as u64 + extent;
+    ((carried / BATCH) as i64, (carried % BATCH) as u32)
 }
 
 // The whole batches and the new carries of one cell, whose carries stand from `at` on.
@@ -42,44 +34,19 @@ pub(crate) fn split(
     ensures rest_after { rest.new ≡ run rest.old at processes
         (rest_of extents.now carries.now at) }
 {
-    let mut p = 0;
-    while p < PROCESSES {
-        let carry = carries[at + p];
-        let extent = extents[p];
-        whole[at + p] = whole_of(carry, extent) as i64;
-        rest[at + p] = rest_of(carry, extent);
-        p += 1;
+    for (p, extent) in extents.iter().enumerate() {
+        let (batches, left) = divided(carries[at + p], *extent);
+        whole[at + p] = batches;
+        rest[at + p] = left;
     }
 }
 
-// No process of the cell whose batches stand from `at` on reaches more than 100,000 whole batches.
-fn cell_batches_fit(whole: &[i64; CARRIES], at: usize) -> bool
-    requires { at + processes ≤ most_cells * processes }
-    ensures { result ≡ every processes (batch_fits whole.now at) }
-{
-    let mut p = 0;
-    while p < PROCESSES {
-        if whole[at + p] <= River::BATCHES_MOST {
-            p += 1;
-        } else {
-            return false;
-        }
-    }
-    true
-}
-
-// Check 7: no process of the n cells does.
+// Check 7: no process of the n cells reaches more than 100,000 whole batches.
 pub(crate) fn batches_fit(n: usize, whole: &[i64; CARRIES]) -> bool
     requires { n ≤ most_cells }
-    ensures { result ≡ every n (cell_batches_fit whole.now) }
+    ensures { IsTrue result ↔ Pass n whole.now }
 {
-    let mut c = 0;
-    while c < n {
-        if cell_batches_fit(whole, c * PROCESSES) {
-            c += 1;
-        } else {
-            return false;
-        }
-    }
-    true
+    whole[..n * PROCESSES]
+        .iter()
+        .all(|batches| *batches <= River::BATCHES_MOST)
 }

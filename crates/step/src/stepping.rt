@@ -1,14 +1,15 @@
 // What a step does once its set, its river and its conditions have passed their checks.
-ghost use Rattle.std.specs.Prelude.{◌≡◌, true, not};
+ghost use Rattle.std.specs.Prelude.{◌≡◌, OnOk, Ok, Err, if◌then◌else◌};
+ghost use Rattle.stoichiometry.specs.declared.refusals.Refusal.TheVariants.{Batches};
 ghost use Rattle.step.specs.Steps.{batches_wrong, stepped_amounts, stepped_carries};
-ghost use Rattle.step.specs.Inner.Stepping.{StepReady, zero_amounts, zero_carries, river_with, answer_with};
+ghost use Rattle.step.specs.Inner.Stepping.{StepReady, zero_amounts, zero_carries, answer_with};
 
-use crate::apply::apply_cells;
+use crate::apply::Terms;
 use crate::cells::make_batches;
 use crate::split::batches_fit;
 use kinetics::Conditions;
 use river::{AMOUNTS, CARRIES, Changed, River};
-use stoichiometry::{ENTRIES, Set};
+use stoichiometry::{ENTRIES, Refusal, Set};
 
 pub(crate) fn answered(number: u32, river: River) -> Changed
     ensures { result ≡ answer_with number river }
@@ -16,36 +17,33 @@ pub(crate) fn answered(number: u32, river: River) -> Changed
     Changed { number, river }
 }
 
-// Writes the amounts and the carries after into lists of zeros; answers whether check 7 is passed, and if it is not,
-// makes no amount: 7 in any cell comes before 8 in any.
-pub(crate) fn step_cells<'a>(
+// Writes the amounts and the carries after into lists of zeros. Where check 7 is not passed it makes no amount: 7 in
+// any cell comes before 8 in any.
+pub(crate) fn step_cells(
     set: Set,
     conditions: Conditions,
-    cells: u32,
     entries: &[i64; ENTRIES],
-    before: &'a [i64; AMOUNTS],
-    carries: &'a [u32; CARRIES],
+    river: &River,
     amounts: &mut [i64; AMOUNTS],
     rest: &mut [u32; CARRIES],
-) -> bool
-    requires { StepReady set (river_with cells before.now carries.now) conditions entries.now
+) -> Result<(), Refusal>
+    requires { StepReady set river.now conditions entries.now
         × (amounts.old ≡ zero_amounts) × (rest.old ≡ zero_carries) }
-    ensures batches { batches_wrong set conditions (river_with cells before.now carries.now)
-        ≡ not result }
-    ensures amounts_after { result ≡ true → amounts.new
-        ≡ stepped_amounts set conditions (river_with cells before.now carries.now) }
-    ensures rest_after { result ≡ true → rest.new
-        ≡ stepped_carries set conditions (river_with cells before.now carries.now) }
+    ensures batches { result ≡ (if batches_wrong set conditions river.now then Err Batches else Ok tt) }
+    ensures amounts_after { OnOk result (amounts.new ≡ stepped_amounts set conditions river.now) }
+    ensures rest_after { OnOk result (rest.new ≡ stepped_carries set conditions river.now) }
 {
-    let n = cells as usize;
+    let n = river.cells as usize;
     let mut whole = [0; CARRIES];
-    make_batches(
-        set, conditions, n, entries, before, carries, &mut whole, rest,
-    );
-    if batches_fit(n, &whole) {
-        apply_cells(n, before, &whole, entries, amounts);
-        true
-    } else {
-        false
+    make_batches(set, conditions, entries, river, &mut whole, rest);
+    if !batches_fit(n, &whole) {
+        return Err(Refusal::Batches);
     }
+    let terms = Terms {
+        amounts: &river.amounts,
+        whole: &whole,
+        entries,
+    };
+    terms.apply_cells(n, amounts);
+    Ok(())
 }

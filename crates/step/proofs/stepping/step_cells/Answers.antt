@@ -1,0 +1,48 @@
+-- The batches, the amounts and the carries that were made are those of the definitions (proofs/StepLaws.antt).
+-- No assumptions.
+use mathlib.Core.Bool.{true≢false}
+use Rattle.std.proofs.Common.{refl, sym}
+use Rattle.river.proofs.Rivers.{river-cells, amount_bound}
+use Rattle.step.proofs.StepLaws.{batches_pass, batches_many, batches-fit, amounts_are}
+use Rattle.step.proofs.stepping.step_cells.Goals as goal
+
+pub make_batches-requires : goal.make_batches-requires
+make_batches-requires c = (c.requires.0.ready, c.requires.0.river, refl, c.requires.2)
+
+pub batches_fit-requires : goal.batches_fit-requires
+batches_fit-requires c = (river-cells c.args.river.now c.requires.0.river).1
+
+pub invariant_of-terms : goal.invariant_of-terms
+invariant_of-terms c =
+    let a = c.args in
+    let right = c.requires.0.river in
+    let whole = c.make_batches.ensures.whole_after in
+    let passed = batches_pass a.set a.conditions a.river.now right _ whole (c.if-not-batches_fit.ensures.0 refl) in
+    record {
+      amounts_fit = record { most = λ k h. amount_bound a.river.now right k h };
+      batches_fit = batches-fit a.set a.conditions a.river.now right _ whole passed;
+      entries_fit = c.requires.0.fit;
+    }
+
+pub apply_cells-requires : goal.apply_cells-requires
+apply_cells-requires c = ((river-cells c.args.river.now c.requires.0.river).1, c.requires.1)
+
+pub returns : goal.returns
+returns c =
+    let a = c.args in
+    let right = c.requires.0.river in
+    let whole = c.make_batches.ensures.whole_after in
+    let passed = batches_pass a.set a.conditions a.river.now right _ whole (c.if-not-batches_fit.ensures.0 refl) in
+    record {
+      batches = rw passed refl;
+      amounts_after = amounts_are a.set a.conditions a.river.now right _ whole _ _ c.requires.0.ready.rows c.apply_cells.ensures;
+      rest_after = c.make_batches.ensures.rest_after;
+    }
+
+pub returns-then-not-batches_fit : goal.returns-then-not-batches_fit
+returns-then-not-batches_fit c =
+    let a = c.args in
+    let many =
+    batches_many a.set a.conditions a.river.now c.requires.0.river _ c.make_batches.ensures.whole_after
+    (λ pass. true≢false (sym (c.if-not-batches_fit.ensures.1 pass))) in
+    record { batches = rw many refl; amounts_after = tt; rest_after = tt }
