@@ -1,68 +1,57 @@
 // The calls on a set and a river, each with its arguments from a line and its answer as number, digest and river.
-use crate::digest::{START, Told, of_river, with_amounts, with_byte, with_rows, with_signed};
+use crate::digest::{Answer, Digest};
+use crate::kinds::Call;
 use crate::line::Line;
 use crate::records::Text;
-use crate::set::{Figures, set_of};
+use crate::set::Figures;
 use crate::{frames, pages, records, set};
 use kinetics::{Conditions, Temperatures};
 use river::{Changed, River};
+use stoichiometry::Set;
 use totals::Totals;
 
-// What a call answered. A call that answers no river hands on the one it got.
-#[derive(Clone, Copy)]
-pub(crate) struct Answer {
-    pub number: u32,
-    pub digest: u64,
-    pub river: River,
-}
-
-fn told(answer: Told, river: River) -> Answer {
+// The river that a call answers becomes the river.
+fn changed(answer: Changed, river: &mut River) -> Answer {
+    *river = answer.river;
     Answer {
         number: answer.number,
-        digest: answer.digest,
-        river,
+        digest: Digest::of_river(river),
     }
 }
 
-fn changed(answer: Changed) -> Answer {
-    let river = answer.river;
+fn check(figures: &Figures) -> Answer {
+    Answer {
+        number: rows::number_of(Set::from(figures)),
+        digest: Digest::START,
+    }
+}
+
+fn rows(figures: &Figures) -> Answer {
+    let answer = rows::rows_of(Set::from(figures));
     Answer {
         number: answer.number,
-        digest: of_river(river),
-        river,
+        digest: Digest::START.with_all(&answer.entries),
     }
 }
 
-fn check(figures: Figures) -> Told {
-    Told {
-        number: rows::number_of(set_of(figures)),
-        digest: START,
-    }
+fn load(line: &Line, river: &mut River) -> Answer {
+    let before = *river;
+    let answer = transport::load_river(before, line.figure(0), line.figure(1), line.signed(2));
+    changed(answer, river)
 }
 
-fn rows(figures: Figures) -> Told {
-    let answer = rows::rows_of(set_of(figures));
-    Told {
-        number: answer.number,
-        digest: with_rows(START, &answer.entries),
-    }
-}
-
-fn load(line: Line, river: River) -> Answer {
-    changed(transport::load_river(river, line.figure(0), line.figure(1), line.signed(2)))
-}
-
-fn flow(line: Line, before: River) -> Answer {
+fn flow(line: &Line, river: &mut River) -> Answer {
+    let before = *river;
     let answer = transport::flow_river(before, line.figure(0));
-    let river = answer.river;
+    *river = answer.river;
     Answer {
         number: answer.number,
-        digest: with_amounts(of_river(river), &answer.left),
-        river,
+        digest: Digest::of_river(river).with_all(&answer.left),
     }
 }
 
-fn air(line: Line, before: River) -> Answer {
+fn air(line: &Line, river: &mut River) -> Answer {
+    let before = *river;
     let answer = transport::air_river(
         before,
         line.figure(0),
@@ -70,15 +59,14 @@ fn air(line: Line, before: River) -> Answer {
         line.figure(2),
         line.figure(3),
     );
-    let river = answer.river;
+    *river = answer.river;
     Answer {
         number: answer.number,
-        digest: with_signed(of_river(river), answer.amount),
-        river,
+        digest: Digest::of_river(river).with(answer.amount),
     }
 }
 
-fn conditions(line: Line) -> Conditions {
+fn conditions(line: &Line) -> Conditions {
     let temperatures = Temperatures {
         xh: line.figure(2),
         xn1: line.figure(3),
@@ -93,63 +81,72 @@ fn conditions(line: Line) -> Conditions {
     }
 }
 
-fn step(line: Line, figures: Figures, river: River) -> Answer {
-    changed(step::step_river(set_of(figures), river, conditions(line)))
-}
-
-fn of_totals(t: Totals) -> u64 {
-    let three = with_signed(
-        with_signed(with_signed(START, t.carbon), t.hydrogen),
-        t.oxygen,
-    );
-    with_signed(
-        with_signed(with_signed(three, t.nitrogen), t.phosphorus),
-        t.charge,
+fn step(line: &Line, figures: &Figures, river: &mut River) -> Answer {
+    let before = *river;
+    changed(
+        step::step_river(Set::from(figures), before, conditions(line)),
+        river,
     )
 }
 
-fn totals(line: Line, figures: Figures, river: River) -> Told {
-    let answer = totals::totals_of(set_of(figures), river, line.figure(0));
-    Told {
+fn of_totals(t: Totals) -> Digest {
+    Digest::START.with_all(&[
+        t.carbon,
+        t.hydrogen,
+        t.oxygen,
+        t.nitrogen,
+        t.phosphorus,
+        t.charge,
+    ])
+}
+
+fn totals(line: &Line, figures: &Figures, river: River) -> Answer {
+    let answer = totals::totals_of(Set::from(figures), river, line.figure(0));
+    Answer {
         number: answer.number,
         digest: of_totals(answer),
     }
 }
 
-fn letter(line: Line, river: River) -> Told {
+fn letter(line: &Line, river: River) -> Answer {
     let answer = river::letter_of(river, line.figure(0));
-    Told {
+    Answer {
         number: answer.number,
-        digest: with_byte(START, answer.letter),
+        digest: Digest::START.with(i64::from(answer.letter)),
     }
 }
 
-// The calls that are given a text or a frame, and neither a set nor a river.
-fn answer_of_text(line: Line, text: Text) -> Told {
-    let kind = line.letter;
-    match kind {
-        b'D' => records::read(text),
-        b'I' => records::lines(line, text),
-        _ => frames::frame(line),
+// The text of a call that reads one: the river's record, unless it was changed.
+fn text_of(text: Option<Text>, river: &River) -> Text {
+    match text {
+        Some(text) => text,
+        None => Text::of(*river),
     }
 }
 
-// The call of a line.
-pub(crate) fn answer_of(line: Line, figures: Figures, river: River, text: Text) -> Answer {
-    let kind = line.letter;
-    match kind {
-        b'C' => told(check(figures), river),
-        b'R' => told(rows(figures), river),
-        b'P' => told(set::published(figures), river),
-        b'N' => changed(River::fresh(line.figure(0))),
-        b'L' => load(line, river),
-        b'F' => flow(line, river),
-        b'A' => air(line, river),
-        b'S' => step(line, figures, river),
-        b'T' => told(totals(line, figures, river), river),
-        b'Y' => told(letter(line, river), river),
-        b'W' => told(records::written(line, river), river),
-        b'B' => told(pages::written(line, river), river),
-        _ => told(answer_of_text(line, text), river),
+// The call of a line. The river that it answers, if it answers one, takes the place of the one that it gets.
+pub(crate) fn answer_of(
+    call: Call,
+    line: &Line,
+    figures: &Figures,
+    river: &mut River,
+    text: Option<Text>,
+) -> Answer {
+    match call {
+        Call::Check => check(figures),
+        Call::Rows => rows(figures),
+        Call::Published => set::published(figures),
+        Call::Fresh => changed(River::fresh(line.figure(0)), river),
+        Call::Load => load(line, river),
+        Call::Flow => flow(line, river),
+        Call::Air => air(line, river),
+        Call::Step => step(line, figures, river),
+        Call::Totals => totals(line, figures, *river),
+        Call::Letter => letter(line, *river),
+        Call::Frame => frames::frame(line),
+        Call::Write => records::written(line, *river),
+        Call::Read => records::read(&text_of(text, river)),
+        Call::Lines => records::lines(line, &text_of(text, river)),
+        Call::Page => pages::written(line, *river),
     }
 }

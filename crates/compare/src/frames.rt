@@ -1,5 +1,5 @@
 // Frames, whose readings are given by their bits; a pattern of a NaN gives a NaN.
-use crate::digest::{START, Told, with, with_signed};
+use crate::digest::{Answer, Digest};
 use crate::line::Line;
 use probe::{Amounts, Frame, Oxygen};
 use stoichiometry::number_of;
@@ -26,7 +26,7 @@ fn oxygen(form: u32, bits: u32) -> Oxygen {
     }
 }
 
-fn frame_of(line: Line) -> Frame {
+fn frame_of(line: &Line) -> Frame {
     Frame {
         ammonium: reading(line.figure(0)),
         nitrite: reading(line.figure(1)),
@@ -36,23 +36,26 @@ fn frame_of(line: Line) -> Frame {
     }
 }
 
-fn with_oxygen(d: u64, oxygen: Option<i64>) -> u64 {
+fn with_oxygen(digest: Digest, oxygen: Option<i64>) -> Digest {
     match oxygen {
-        Some(grains) => with_signed(with(d, 1), grains),
-        None => with(with(d, 0), 0),
+        Some(grains) => digest.with(1).with(grains),
+        None => digest.with(0).with(0),
     }
 }
 
-fn of_amounts(amounts: Amounts) -> u64 {
-    let nitrogen = with_signed(with_signed(START, amounts.ammonium), amounts.nitrite);
-    let four = with_signed(with_signed(nitrogen, amounts.nitrate), amounts.phosphate);
+fn of_amounts(amounts: Amounts) -> Digest {
+    let four = Digest::START
+        .with(amounts.ammonium)
+        .with(amounts.nitrite)
+        .with(amounts.nitrate)
+        .with(amounts.phosphate);
     with_oxygen(four, amounts.oxygen)
 }
 
 // A refused frame has the digest of zeros and no amount of O2.
-pub(crate) fn frame(line: Line) -> Told {
+pub(crate) fn frame(line: &Line) -> Answer {
     let answer = probe::amounts_of(frame_of(line), line.figure(6));
-    Told {
+    Answer {
         number: number_of(&answer),
         digest: of_amounts(answer.unwrap_or_default()),
     }

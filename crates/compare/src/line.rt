@@ -1,115 +1,82 @@
 // A line of the vectors: a letter, and decimal numbers with a blank before each.
+use crate::digest::{Answer, Digest};
+use arrayvec::ArrayVec;
 
-// The most numbers that a line has: the figures of a set.
+// More numbers than a line has: the figures of a set. What stands beyond them is left out.
 const ROOM: usize = 96;
 
-// A line as far as it is read. Numbers are kept without their signs; at most one number of a line has a minus.
-#[derive(Clone, Copy)]
+// A line as far as it is read.
+#[derive(Drop)]
 pub(crate) struct Line {
     pub letter: u8,
-    pub count: usize,
-    pub negative: bool,
-    pub numbers: [u64; ROOM],
-}
-
-// A number with one more digit; one beyond 64 bits stays as it is.
-fn appended(n: u64, digit: u8) -> u64 {
-    if n < 1000000000000000000 {
-        n * 10 + digit as u64
-    } else {
-        n
-    }
-}
-
-// A number with its sign, or the extreme number on its side.
-fn signed(size: u64, negative: bool) -> i64 {
-    if size > 9223372036854775807 {
-        return if negative { i64::MIN } else { i64::MAX };
-    }
-    if negative {
-        -(size as i64)
-    } else {
-        size as i64
-    }
+    numbers: ArrayVec<i64, ROOM>,
+    // The last number has a minus.
+    negative: bool,
 }
 
 impl Line {
     pub(crate) fn new() -> Line {
         Line {
             letter: 0,
-            count: 0,
+            numbers: ArrayVec::new(),
             negative: false,
-            numbers: [0; ROOM],
         }
     }
 
-    // With one more digit of the last number.
-    fn with_digit(self, digit: u8) -> Line {
-        let mut next = self;
-        if self.count >= 1 {
-            let last = self.count - 1;
-            if last < ROOM {
-                next.numbers[last] = appended(self.numbers[last], digit);
-            }
+    // One more byte, which is no line feed.
+    pub(crate) fn take(&mut self, byte: u8) {
+        match byte {
+            b'0'..=b'9' => self.take_digit(byte - b'0'),
+            b' ' => self.begin_number(),
+            b'-' => self.negative = true,
+            _ => self.letter = byte,
         }
-        next
     }
 
-    // With one more byte, which is no line feed.
-    pub(crate) fn with(self, byte: u8) -> Line {
-        if byte >= b'0' && byte <= b'9' {
-            return self.with_digit(byte - b'0');
+    fn begin_number(&mut self) {
+        self.negative = false;
+        let _ = self.numbers.try_push(0);
+    }
+
+    // A number beyond 64 bits becomes the extreme number on its side.
+    fn take_digit(&mut self, digit: u8) {
+        let negative = self.negative;
+        if let Some(number) = self.numbers.last_mut() {
+            let tenfold = number.saturating_mul(10);
+            *number = if negative {
+                tenfold.saturating_sub(i64::from(digit))
+            } else {
+                tenfold.saturating_add(i64::from(digit))
+            };
         }
-        let mut next = self;
-        if byte == b' ' {
-            if self.count < ROOM {
-                next.count = self.count + 1;
-            }
-        } else if byte == b'-' {
-            next.negative = true;
-        } else {
-            next.letter = byte;
-        }
-        next
     }
 
     // Numbers are counted from 0; a number that the line does not have is 0.
-    pub(crate) fn number(self, place: usize) -> u64 {
-        if place < ROOM {
-            return self.numbers[place];
-        }
-        0
+    pub(crate) fn signed(&self, place: usize) -> i64 {
+        self.numbers.get(place).copied().unwrap_or(0)
     }
 
     // A number of 32 bits, or the largest of them.
-    pub(crate) fn figure(self, place: usize) -> u32 {
-        let n = self.number(place);
-        if n > 4294967295 {
-            return u32::MAX;
-        }
-        n as u32
+    pub(crate) fn figure(&self, place: usize) -> u32 {
+        u32::try_from(self.signed(place)).unwrap_or(u32::MAX)
     }
 
-    pub(crate) fn byte(self, place: usize) -> u8 {
-        (self.number(place) % 256) as u8
+    // A number that is a place or a length.
+    pub(crate) fn place(&self, place: usize) -> usize {
+        self.figure(place) as usize
     }
 
-    pub(crate) fn signed(self, place: usize) -> i64 {
-        signed(self.number(place), self.negative)
+    // The numbers after the first.
+    pub(crate) fn others(&self) -> &[i64] {
+        self.numbers.get(1..).unwrap_or(&[])
     }
 
     // The number that a call answers stands last but one, the digest last.
-    pub(crate) fn expected_number(self) -> u64 {
-        if self.count >= 2 {
-            return self.number(self.count - 2);
+    pub(crate) fn expected(&self) -> Answer {
+        let count = self.numbers.len();
+        Answer {
+            number: self.figure(count.saturating_sub(2)),
+            digest: Digest(u64::from(self.figure(count.saturating_sub(1)))),
         }
-        0
-    }
-
-    pub(crate) fn expected_digest(self) -> u64 {
-        if self.count >= 1 {
-            return self.number(self.count - 1);
-        }
-        0
     }
 }

@@ -6,6 +6,7 @@
 mod calls;
 mod digest;
 mod frames;
+mod kinds;
 mod line;
 mod pages;
 mod reading;
@@ -18,8 +19,6 @@ mod write;
 use std::io;
 
 fn main(rt: HostRuntime) -> io::Result<()> {
-    let read = reading::all(&rt)?;
-    let scene = read.scene;
-    let tally = scene.tally;
-    write::write_table(&rt, tally)
+    let tally = reading::tally_of(&rt)?;
+    write::write_table(&rt, &tally)
 }

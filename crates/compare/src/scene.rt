@@ -1,173 +1,101 @@
 // What the calls are made on: a set, a river and the river's record as text, each as it was changed for the next call
 // alone.
-use crate::calls::{Answer, answer_of};
+use crate::calls::answer_of;
+use crate::kinds::{Call, Change, Kind};
 use crate::line::Line;
 use crate::records::Text;
 use crate::set::Figures;
-use crate::tally::{KINDS, Pair, Tally, kind_of};
-use river::{AMOUNTS, CARRIES, River};
+use crate::tally::Tally;
+use river::River;
+use std::mem;
 
-// What the next call gets: a set, a river and whether it was changed for this call alone, a text and whether it was
-// made, which is done when it is first asked for.
-#[derive(Clone, Copy)]
-pub(crate) struct Given {
-    figures: Figures,
-    river: River,
-    changed: bool,
-    text: Text,
-    made: bool,
+// What was changed for the next call alone.
+#[derive(Default, Drop)]
+struct Changes {
+    figures: Option<Figures>,
+    river: Option<River>,
+    text: Option<Text>,
 }
 
-#[derive(Clone, Copy)]
+#[derive(Drop)]
 pub(crate) struct Scene {
     figures: Figures,
     river: River,
-    given: Given,
+    changed: Changes,
     pub tally: Tally,
-}
-
-// The river with the change that a line makes; a line with another letter makes none.
-fn changed_river(river: River, line: Line) -> River {
-    let letter = line.letter;
-    let place = line.figure(0) as usize;
-    let mut next = river;
-    if letter == b'c' {
-        next.cells = line.figure(0);
-    }
-    if letter == b'a' {
-        if place < AMOUNTS {
-            next.amounts[place] = line.signed(1);
-        }
-    }
-    if letter == b'k' {
-        if place < CARRIES {
-            next.carries[place] = line.figure(1);
-        }
-    }
-    next
-}
-
-impl Given {
-    fn of(figures: Figures, river: River) -> Given {
-        Given {
-            figures,
-            river,
-            changed: false,
-            text: Text::none(),
-            made: false,
-        }
-    }
-
-    fn with_figure(self, line: Line) -> Given {
-        let before = self.figures;
-        let figures = before.with(line.figure(0) as usize, line.figure(1));
-        let mut next = self;
-        next.figures = figures;
-        next
-    }
-
-    fn with_river(self, line: Line) -> Given {
-        let river = changed_river(self.river, line);
-        let mut next = self;
-        next.river = river;
-        next.changed = true;
-        next
-    }
-
-    // The text as a call that reads one gets it.
-    fn text_for(self, reads: bool) -> Text {
-        if !reads || self.made {
-            return self.text;
-        }
-        Text::of(self.river)
-    }
-
-    fn with_text(self, line: Line) -> Given {
-        let before = self.text_for(true);
-        let text = before.with(line);
-        let mut next = self;
-        next.text = text;
-        next.made = true;
-        next
-    }
-
-    // With the change that a line makes; a line with another letter makes none.
-    fn with(self, line: Line) -> Given {
-        let letter = line.letter;
-        match letter {
-            b'f' => self.with_figure(line),
-            b'c' | b'a' | b'k' => self.with_river(line),
-            b'b' | b'm' | b'l' => self.with_text(line),
-            _ => self,
-        }
-    }
-}
-
-fn expected(line: Line) -> Pair {
-    Pair {
-        number: line.expected_number(),
-        digest: line.expected_digest(),
-    }
-}
-
-fn got(answer: Answer) -> Pair {
-    Pair {
-        number: answer.number as u64,
-        digest: answer.digest,
-    }
 }
 
 impl Scene {
     pub(crate) fn new() -> Scene {
-        let figures = Figures::zeros();
         let none = River::fresh(0);
-        Scene::of(figures, none.river, Tally::new())
-    }
-
-    // With no change for the next call.
-    fn of(figures: Figures, river: River, tally: Tally) -> Scene {
         Scene {
-            figures,
-            river,
-            given: Given::of(figures, river),
-            tally,
+            figures: Figures::ZEROS,
+            river: none.river,
+            changed: Changes::default(),
+            tally: Tally::new(),
         }
     }
 
-    fn with_change(self, line: Line) -> Scene {
-        let given = self.given;
-        let mut next = self;
-        let after = given.with(line);
-        next.given = after;
-        next
+    // One more line. One whose letter asks for nothing is only counted.
+    pub(crate) fn take(&mut self, line: &Line) {
+        self.tally.count_line();
+        match Kind::try_from(line.letter) {
+            Ok(Kind::Set) => {
+                self.figures = Figures::of(line);
+                self.changed = Changes::default();
+            }
+            Ok(Kind::Change(change)) => self.change(change, line),
+            Ok(Kind::Call(call)) => self.call(call, line),
+            Err(_) => {}
+        }
+    }
+
+    fn changed_river(&mut self) -> &mut River {
+        self.changed.river.get_or_insert(self.river)
+    }
+
+    fn changed_text(&mut self) -> &mut Text {
+        let river = self.changed.river.unwrap_or(self.river);
+        self.changed.text.get_or_insert_with(|| Text::of(river))
+    }
+
+    // A place that is not there changes nothing.
+    fn change(&mut self, change: Change, line: &Line) {
+        let place = line.place(0);
+        match change {
+            Change::Figure => {
+                let figures = self.changed.figures.get_or_insert(self.figures);
+                figures.set(place, line.figure(1));
+            }
+            Change::Cells => self.changed_river().cells = line.figure(0),
+            Change::Amount => {
+                if let Some(amount) = self.changed_river().amounts.get_mut(place) {
+                    *amount = line.signed(1);
+                }
+            }
+            Change::Carry => {
+                if let Some(carry) = self.changed_river().carries.get_mut(place) {
+                    *carry = line.figure(1);
+                }
+            }
+            Change::Bytes => self.changed_text().put(place, line.others()),
+            Change::BytesCopied => self
+                .changed_text()
+                .copy(place, line.place(1), line.place(2)),
+            Change::Length => self.changed_text().set_length(place),
+        }
     }
 
     // A river that was changed for this call alone is then again what it was.
-    fn with_call(self, line: Line) -> Scene {
-        let given = self.given;
-        let letter = line.letter;
-        let text = given.text_for(letter == b'D' || letter == b'I');
-        let answer = answer_of(line, given.figures, given.river, text);
-        let before = self.tally;
-        let tally = before.with_call(letter, expected(line), got(answer));
-        if given.changed {
-            return Scene::of(self.figures, self.river, tally);
+    fn call(&mut self, call: Call, line: &Line) {
+        let changed = mem::take(&mut self.changed);
+        let figures = changed.figures.unwrap_or(self.figures);
+        let mut river = changed.river.unwrap_or(self.river);
+        let got = answer_of(call, line, &figures, &mut river, changed.text);
+        if changed.river.is_none() {
+            self.river = river;
         }
-        Scene::of(self.figures, answer.river, tally)
-    }
-
-    // After one more line.
-    pub(crate) fn with(self, line: Line) -> Scene {
-        let before = self.tally;
-        let tally = before.with_line();
-        if line.letter == b'G' {
-            return Scene::of(Figures::of(line), self.river, tally);
-        }
-        let mut counted = self;
-        counted.tally = tally;
-        if kind_of(line.letter) < KINDS {
-            return counted.with_call(line);
-        }
-        counted.with_change(line)
+        self.tally
+            .count_call(call, line.letter, line.expected(), got);
     }
 }

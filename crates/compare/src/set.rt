@@ -1,6 +1,7 @@
 // A set of its 83 figures, in the order of the fields, and the digest of a set.
-use crate::digest::{START, Told, with_figure, with_figures};
+use crate::digest::{Answer, Digest};
 use crate::line::Line;
+use std::array;
 use stoichiometry::{
     AerobicHalfSaturations, AlgaeHalfSaturations, AlgaeRates, AnoxicHalfSaturations, Fractions,
     GrowthRates, HalfSaturations, InertFractions, Organics, RateConstants, Set, Xn1HalfSaturations,
@@ -15,177 +16,162 @@ pub(crate) struct Figures {
 }
 
 impl Figures {
-    pub(crate) fn zeros() -> Figures {
-        Figures { list: [0; FIGURES] }
-    }
+    pub(crate) const ZEROS: Figures = Figures { list: [0; FIGURES] };
 
     // The figures that a line gives.
-    pub(crate) fn of(line: Line) -> Figures {
-        let mut list = [0; FIGURES];
-        let mut i = 0;
-        while i < FIGURES {
-            list[i] = line.figure(i);
-            i += 1;
+    pub(crate) fn of(line: &Line) -> Figures {
+        Figures {
+            list: array::from_fn(|i| line.figure(i)),
         }
-        Figures { list }
     }
 
-    // A figure that is not there is 0.
-    fn at(self, place: usize) -> u32 {
-        if place < FIGURES {
-            return self.list[place];
+    // A place that is not there changes nothing.
+    pub(crate) fn set(&mut self, place: usize, value: u32) {
+        if let Some(figure) = self.list.get_mut(place) {
+            *figure = value;
         }
-        0
-    }
-
-    pub(crate) fn with(self, place: usize, value: u32) -> Figures {
-        let mut next = self;
-        if place < FIGURES {
-            next.list[place] = value;
-        }
-        next
     }
 }
 
 // The fractions of an organic, counted from 0 to 7.
-fn fractions(figures: Figures, organic: usize) -> Fractions {
+fn fractions(list: &[u32; FIGURES], organic: usize) -> Fractions {
     let first = organic % 8 * 5;
     Fractions {
-        carbon: figures.at(first),
-        hydrogen: figures.at(first + 1),
-        oxygen: figures.at(first + 2),
-        nitrogen: figures.at(first + 3),
-        phosphorus: figures.at(first + 4),
+        carbon: list[first],
+        hydrogen: list[first + 1],
+        oxygen: list[first + 2],
+        nitrogen: list[first + 3],
+        phosphorus: list[first + 4],
     }
 }
 
-fn organics(figures: Figures) -> Organics {
+fn organics(list: &[u32; FIGURES]) -> Organics {
     Organics {
-        ss: fractions(figures, 0),
-        si: fractions(figures, 1),
-        xh: fractions(figures, 2),
-        xn1: fractions(figures, 3),
-        xn2: fractions(figures, 4),
-        xalg: fractions(figures, 5),
-        xs: fractions(figures, 6),
-        xi: fractions(figures, 7),
+        ss: fractions(list, 0),
+        si: fractions(list, 1),
+        xh: fractions(list, 2),
+        xn1: fractions(list, 3),
+        xn2: fractions(list, 4),
+        xalg: fractions(list, 5),
+        xs: fractions(list, 6),
+        xi: fractions(list, 7),
     }
 }
 
-fn yields(figures: Figures) -> Yields {
+fn yields(list: &[u32; FIGURES]) -> Yields {
     Yields {
-        aerobic: figures.at(40),
-        nitrate: figures.at(41),
-        nitrite: figures.at(42),
-        xn1: figures.at(43),
-        xn2: figures.at(44),
-        death: figures.at(45),
-        hydrolysis: figures.at(46),
+        aerobic: list[40],
+        nitrate: list[41],
+        nitrite: list[42],
+        xn1: list[43],
+        xn2: list[44],
+        death: list[45],
+        hydrolysis: list[46],
     }
 }
 
-fn rates(figures: Figures) -> RateConstants {
+fn rates(list: &[u32; FIGURES]) -> RateConstants {
     RateConstants {
         aerobic: GrowthRates {
-            growth: figures.at(49),
-            respiration: figures.at(50),
+            growth: list[49],
+            respiration: list[50],
         },
         anoxic: GrowthRates {
-            growth: figures.at(51),
-            respiration: figures.at(52),
+            growth: list[51],
+            respiration: list[52],
         },
         xn1: GrowthRates {
-            growth: figures.at(53),
-            respiration: figures.at(54),
+            growth: list[53],
+            respiration: list[54],
         },
         xn2: GrowthRates {
-            growth: figures.at(55),
-            respiration: figures.at(56),
+            growth: list[55],
+            respiration: list[56],
         },
         algae: AlgaeRates {
-            ammonium: figures.at(57),
-            nitrate: figures.at(58),
-            respiration: figures.at(59),
-            death: figures.at(60),
+            ammonium: list[57],
+            nitrate: list[58],
+            respiration: list[59],
+            death: list[60],
         },
-        hydrolysis: figures.at(61),
-        adsorption: figures.at(62),
-        desorption: figures.at(63),
+        hydrolysis: list[61],
+        adsorption: list[62],
+        desorption: list[63],
     }
 }
 
-fn half_saturations(figures: Figures) -> HalfSaturations {
+fn half_saturations(list: &[u32; FIGURES]) -> HalfSaturations {
     HalfSaturations {
         aerobic: AerobicHalfSaturations {
-            ss: figures.at(64),
-            o2: figures.at(65),
-            nitrogen: figures.at(66),
-            phosphate: figures.at(67),
+            ss: list[64],
+            o2: list[65],
+            nitrogen: list[66],
+            phosphate: list[67],
         },
         anoxic: AnoxicHalfSaturations {
-            ss: figures.at(68),
-            o2: figures.at(69),
-            no3: figures.at(70),
-            no2: figures.at(71),
-            phosphate: figures.at(72),
+            ss: list[68],
+            o2: list[69],
+            no3: list[70],
+            no2: list[71],
+            phosphate: list[72],
         },
         xn1: Xn1HalfSaturations {
-            o2: figures.at(73),
-            nh4: figures.at(74),
-            phosphate: figures.at(75),
+            o2: list[73],
+            nh4: list[74],
+            phosphate: list[75],
         },
         xn2: Xn2HalfSaturations {
-            o2: figures.at(76),
-            no2: figures.at(77),
-            phosphate: figures.at(78),
+            o2: list[76],
+            no2: list[77],
+            phosphate: list[78],
         },
         algae: AlgaeHalfSaturations {
-            o2: figures.at(79),
-            nitrogen: figures.at(80),
-            nh4: figures.at(81),
-            phosphate: figures.at(82),
+            o2: list[79],
+            nitrogen: list[80],
+            nh4: list[81],
+            phosphate: list[82],
         },
     }
 }
 
-pub(crate) fn set_of(figures: Figures) -> Set {
-    Set {
-        fractions: organics(figures),
-        yields: yields(figures),
-        inert: InertFractions {
-            bacteria: figures.at(47),
-            algae: figures.at(48),
-        },
-        rates: rates(figures),
-        half: half_saturations(figures),
+impl From<&Figures> for Set {
+    fn from(figures: &Figures) -> Set {
+        let list = &figures.list;
+        Set {
+            fractions: organics(list),
+            yields: yields(list),
+            inert: InertFractions {
+                bacteria: list[47],
+                algae: list[48],
+            },
+            rates: rates(list),
+            half: half_saturations(list),
+        }
     }
 }
 
 // The published set with the rate constants and half-saturations of the figures; where it is refused, a set of zeros.
-pub(crate) fn published(figures: Figures) -> Told {
-    let answer = Set::published(rates(figures), half_saturations(figures));
-    Told {
+pub(crate) fn published(figures: &Figures) -> Answer {
+    let list = &figures.list;
+    let answer = Set::published(rates(list), half_saturations(list));
+    Answer {
         number: number_of(&answer),
-        digest: of_set(answer.unwrap_or(set_of(Figures::zeros()))),
+        digest: of_set(answer.unwrap_or(Set::from(&Figures::ZEROS))),
     }
 }
 
-fn with_fractions(d: u64, f: Fractions) -> u64 {
-    let three = with_figure(with_figure(with_figure(d, f.carbon), f.hydrogen), f.oxygen);
-    with_figure(with_figure(three, f.nitrogen), f.phosphorus)
+fn with_fractions(digest: Digest, f: Fractions) -> Digest {
+    digest.with_all(&[f.carbon, f.hydrogen, f.oxygen, f.nitrogen, f.phosphorus])
 }
 
-fn with_organics(d: u64, f: Organics) -> u64 {
-    let dissolved = with_fractions(with_fractions(d, f.ss), f.si);
-    let bacteria = with_fractions(
-        with_fractions(with_fractions(dissolved, f.xh), f.xn1),
-        f.xn2,
-    );
-    with_fractions(with_fractions(with_fractions(bacteria, f.xalg), f.xs), f.xi)
+fn with_organics(digest: Digest, f: Organics) -> Digest {
+    [f.ss, f.si, f.xh, f.xn1, f.xn2, f.xalg, f.xs, f.xi]
+        .iter()
+        .fold(digest, |digest, f| with_fractions(digest, *f))
 }
 
-fn with_yields(d: u64, y: Yields, f: InertFractions) -> u64 {
-    let list = [
+fn with_yields(digest: Digest, y: Yields, f: InertFractions) -> Digest {
+    digest.with_all(&[
         y.aerobic,
         y.nitrate,
         y.nitrite,
@@ -195,12 +181,11 @@ fn with_yields(d: u64, y: Yields, f: InertFractions) -> u64 {
         y.hydrolysis,
         f.bacteria,
         f.algae,
-    ];
-    with_figures(d, &list)
+    ])
 }
 
-fn with_rates(d: u64, k: RateConstants) -> u64 {
-    let list = [
+fn with_rates(digest: Digest, k: RateConstants) -> Digest {
+    digest.with_all(&[
         k.aerobic.growth,
         k.aerobic.respiration,
         k.anoxic.growth,
@@ -216,12 +201,11 @@ fn with_rates(d: u64, k: RateConstants) -> u64 {
         k.hydrolysis,
         k.adsorption,
         k.desorption,
-    ];
-    with_figures(d, &list)
+    ])
 }
 
-fn with_half_saturations(d: u64, h: HalfSaturations) -> u64 {
-    let list = [
+fn with_half_saturations(digest: Digest, h: HalfSaturations) -> Digest {
+    digest.with_all(&[
         h.aerobic.ss,
         h.aerobic.o2,
         h.aerobic.nitrogen,
@@ -241,12 +225,11 @@ fn with_half_saturations(d: u64, h: HalfSaturations) -> u64 {
         h.algae.nitrogen,
         h.algae.nh4,
         h.algae.phosphate,
-    ];
-    with_figures(d, &list)
+    ])
 }
 
-fn of_set(set: Set) -> u64 {
-    let organics = with_organics(START, set.fractions);
+fn of_set(set: Set) -> Digest {
+    let organics = with_organics(Digest::START, set.fractions);
     let yields = with_yields(organics, set.yields, set.inert);
     with_half_saturations(with_rates(yields, set.rates), set.half)
 }

@@ -1,151 +1,88 @@
 // The counts of the calls and of equal answers, and the first difference.
+use crate::digest::Answer;
+use crate::kinds::Call;
+use std::fmt;
 
-pub(crate) const KINDS: usize = 15;
-
+// The numbers that a call answers: 0, and those of the refusals.
 pub(crate) const NUMBERS: usize = 13;
 
-const COUNTS: usize = KINDS * NUMBERS;
-
-// A call by its number and its digest, expected or got.
+// Calls of one kind by expected number, and equal answers. No count of a text that fits in the memory reaches the limit.
 #[derive(Clone, Copy)]
-pub(crate) struct Pair {
-    pub number: u64,
-    pub digest: u64,
+pub(crate) struct Row {
+    pub counts: [u64; NUMBERS],
+    pub equal: u64,
 }
 
-// Where an answer first differed; line 0 where none did.
-#[derive(Clone, Copy)]
-pub(crate) struct Difference {
-    pub line: u64,
-    pub letter: u8,
-    pub expected: Pair,
-    pub got: Pair,
-}
+impl Row {
+    const EMPTY: Row = Row {
+        counts: [0; NUMBERS],
+        equal: 0,
+    };
 
-// Calls by kind and expected number, kind k with number n at k * NUMBERS + n; equal answers by kind; lines so far.
-#[derive(Clone, Copy)]
-pub(crate) struct Tally {
-    pub counts: [u64; COUNTS],
-    pub equal: [u64; KINDS],
-    pub lines: u64,
-    pub first: Difference,
-}
+    fn count(&mut self, expected: Answer, got: Answer) {
+        if let Some(count) = self.counts.get_mut(expected.number as usize) {
+            *count = count.saturating_add(1);
+        }
+        if expected == got {
+            self.equal = self.equal.saturating_add(1);
+        }
+    }
 
-const NOTHING: Pair = Pair {
-    number: 0,
-    digest: 0,
-};
-
-// The place of a kind in the table, counted from 0; KINDS for a letter that makes no call.
-pub(crate) fn kind_of(letter: u8) -> usize {
-    match letter {
-        b'C' => 0,
-        b'R' => 1,
-        b'P' => 2,
-        b'N' => 3,
-        b'L' => 4,
-        b'F' => 5,
-        b'A' => 6,
-        b'S' => 7,
-        b'T' => 8,
-        b'Y' => 9,
-        b'M' => 10,
-        b'W' => 11,
-        b'D' => 12,
-        b'I' => 13,
-        b'B' => 14,
-        _ => KINDS,
+    pub(crate) fn calls(&self) -> u64 {
+        self.counts
+            .iter()
+            .fold(0u64, |sum, count| sum.saturating_add(*count))
     }
 }
 
-// No count of a text that fits in the memory reaches the limit.
-fn one_more(n: u64) -> u64 {
-    if n < u64::MAX { n + 1 } else { n }
+// Where an answer differed.
+#[derive(Clone, Copy)]
+pub(crate) struct Difference {
+    line: u64,
+    letter: u8,
+    expected: Answer,
+    got: Answer,
 }
 
-fn same(a: Pair, b: Pair) -> bool {
-    a.number == b.number && a.digest == b.digest
+impl fmt::Display for Difference {
+    fn fmt<W: fmt::Write>(&self, f: &mut fmt::Formatter<W>) -> fmt::Result {
+        let line = self.line;
+        let kind = char::from(self.letter);
+        write!(f, "line {line}, kind {kind}, expected {}", self.expected)?;
+        write!(f, ", got {}", self.got)
+    }
+}
+
+// The rows by the calls' places in the table, the lines so far, and the first difference.
+#[derive(Drop)]
+pub(crate) struct Tally {
+    pub rows: [Row; Call::COUNT],
+    lines: u64,
+    pub first: Option<Difference>,
 }
 
 impl Tally {
     pub(crate) fn new() -> Tally {
         Tally {
-            counts: [0; COUNTS],
-            equal: [0; KINDS],
+            rows: [Row::EMPTY; Call::COUNT],
             lines: 0,
-            first: Difference {
-                line: 0,
-                letter: 0,
-                expected: NOTHING,
-                got: NOTHING,
-            },
+            first: None,
         }
     }
 
-    pub(crate) fn with_line(self) -> Tally {
-        let mut next = self;
-        next.lines = one_more(self.lines);
-        next
+    pub(crate) fn count_line(&mut self) {
+        self.lines = self.lines.saturating_add(1);
     }
 
-    fn with_count(self, kind: usize, number: u64) -> Tally {
-        let mut next = self;
-        if kind < KINDS {
-            if number < NUMBERS as u64 {
-                let at = kind * NUMBERS + number as usize;
-                next.counts[at] = one_more(self.counts[at]);
-            }
+    pub(crate) fn count_call(&mut self, call: Call, letter: u8, expected: Answer, got: Answer) {
+        self.rows[call as usize].count(expected, got);
+        if expected != got && self.first.is_none() {
+            self.first = Some(Difference {
+                line: self.lines,
+                letter,
+                expected,
+                got,
+            });
         }
-        next
-    }
-
-    fn with_equal(self, kind: usize) -> Tally {
-        let mut next = self;
-        if kind < KINDS {
-            next.equal[kind] = one_more(self.equal[kind]);
-        }
-        next
-    }
-
-    fn with_difference(self, letter: u8, expected: Pair, got: Pair) -> Tally {
-        let earlier = self.first;
-        if earlier.line > 0 {
-            return self;
-        }
-        let first = Difference {
-            line: self.lines,
-            letter,
-            expected,
-            got,
-        };
-        let mut next = self;
-        next.first = first;
-        next
-    }
-
-    // With one more call.
-    pub(crate) fn with_call(self, letter: u8, expected: Pair, got: Pair) -> Tally {
-        let kind = kind_of(letter);
-        let counted = self.with_count(kind, expected.number);
-        if same(expected, got) {
-            return counted.with_equal(kind);
-        }
-        counted.with_difference(letter, expected, got)
-    }
-
-    pub(crate) fn count(self, kind: usize, number: usize) -> u64 {
-        if kind < KINDS {
-            if number < NUMBERS {
-                return self.counts[kind * NUMBERS + number];
-            }
-        }
-        0
-    }
-
-    pub(crate) fn equals(self, kind: usize) -> u64 {
-        if kind < KINDS {
-            return self.equal[kind];
-        }
-        0
     }
 }

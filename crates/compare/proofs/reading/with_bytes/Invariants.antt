@@ -1,9 +1,0 @@
--- The loop passes each byte once. Nothing is said of what is read.
-use Rattle.std.proofs.Common.{length, ◌-◌, ◌≤◌}
-use Rattle.compare.proofs.reading.with_bytes.Given as goal
-
-abbrev pub invariant-loop-i : goal.invariant-loop-i
-invariant-loop-i l = l.i ≤ length l.bytes
-
-abbrev pub decreases-loop-i : goal.decreases-loop-i
-decreases-loop-i l = length l.bytes - l.i

@@ -1,9 +1,0 @@
--- The loop passes each kind once. Nothing is said of what is written.
-use Rattle.std.proofs.Common.{◌-◌, ◌≤◌}
-use Rattle.compare.proofs.write.write_table.Given as goal
-
-abbrev pub invariant-loop-kind : goal.invariant-loop-kind
-invariant-loop-kind g l = l.kind ≤ 15
-
-abbrev pub decreases-loop-kind : goal.decreases-loop-kind
-decreases-loop-kind g l = 15 - l.kind
