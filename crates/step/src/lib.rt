@@ -13,6 +13,7 @@ use stoichiometry::{Set, refusal};
 mod apply;
 mod cells;
 mod factors;
+mod levels;
 mod products;
 mod rates;
 mod split;

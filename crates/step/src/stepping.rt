@@ -5,10 +5,11 @@ ghost use Rattle.step.specs.Steps.{batches_wrong, stepped_amounts, stepped_carri
 ghost use Rattle.step.specs.Inner.Stepping.{StepReady, zero_amounts, zero_carries, answer_with};
 
 use crate::apply::Terms;
-use crate::cells::make_batches;
+use crate::rates::Rates;
 use crate::split::batches_fit;
 use kinetics::Conditions;
 use river::{AMOUNTS, CARRIES, Changed, River};
+use rows::batches_of;
 use stoichiometry::{ENTRIES, Refusal, Set};
 
 pub(crate) fn answered(number: u32, river: River) -> Changed
@@ -35,7 +36,13 @@ pub(crate) fn step_cells(
 {
     let n = river.cells as usize;
     let mut whole = [0; CARRIES];
-    make_batches(set, conditions, entries, river, &mut whole, rest);
+    let rates = Rates {
+        set,
+        conditions,
+        entries,
+        sizes: batches_of(set),
+    };
+    rates.make_batches(river, &mut whole, rest);
     if !batches_fit(n, &whole) {
         return Err(Refusal::Batches);
     }

@@ -3,11 +3,22 @@
 use mathlib.Core.Bool.{true≢false}
 use Rattle.std.proofs.Common.{refl, sym}
 use Rattle.river.proofs.Rivers.{river-cells, amount_bound}
+use Rattle.step.proofs.RatingLaws.{halves-fit}
 use Rattle.step.proofs.StepLaws.{batches_pass, batches_many, batches-fit, amounts_are}
 use Rattle.step.proofs.stepping.step_cells.Goals as goal
 
+pub invariant_of-rates : goal.invariant_of-rates
+invariant_of-rates c =
+    let ready = c.requires.0.ready in
+    record {
+      ready = ready;
+      halves = halves-fit c.args.set ready.figures;
+      entries_fit = c.requires.0.fit;
+      sized = c.batches_of.ensures.answer;
+    }
+
 pub make_batches-requires : goal.make_batches-requires
-make_batches-requires c = (c.requires.0.ready, c.requires.0.river, refl, c.requires.2)
+make_batches-requires c = (c.requires.0.river, refl, c.requires.2)
 
 pub batches_fit-requires : goal.batches_fit-requires
 batches_fit-requires c = (river-cells c.args.river.now c.requires.0.river).1

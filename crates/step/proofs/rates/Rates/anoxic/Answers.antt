@@ -1,0 +1,32 @@
+-- The products are the definition's from place 3, factor by factor. No assumptions.
+use lib.Dec.{lit<}
+use Rattle.kinetics.proofs.FactorLaws.{times_first}
+use Rattle.kinetics.specs.Rates.{rate_at, rates_of, product_at}
+use Rattle.numeric.specs.Table.{tab}
+use Rattle.step.proofs.RatingLaws.{takes_phosphate_lem}
+use Rattle.step.proofs.rates.Rates.anoxic.Goals as goal
+
+pub returns : goal.returns
+unfolding rate_at rates_of product_at tab
+returns c =
+    let rates = c.args.self.now in
+    let phosphate = takes_phosphate_lem rates.set _ rates.ready.rows in
+    simp (
+      c.by.ensures,
+      c.with_uptake.ensures,
+      c.times-nitrate.ensures,
+      c.by-2.ensures,
+      c.with_uptake-2.ensures,
+      c.times-nitrite.ensures,
+      c.times-start.ensures,
+      c.by-3.ensures,
+      c.times.ensures,
+      c.monod.ensures,
+      c.share-no_o2.ensures,
+      c.monod-no3.ensures,
+      c.monod-2.ensures,
+      c.monod-phosphate.ensures,
+      phosphate 3 (lit< tt),
+      phosphate 4 (lit< tt),
+      times_first,
+    )
