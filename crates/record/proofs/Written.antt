@@ -3,68 +3,61 @@ use mathlib.Core.Path.{◌≡◌, refl, sym, ap, ap₂, ◌∙◌}
 use mathlib.Core.Bool.{Bool, true, false, cond}
 use mathlib.Core.List.{List, [], ◌∷◌, ◌++◌, append_assoc}
 use Prim.Native.Nat.{ℕ, ◌+◌, ◌*◌, ◌≤◌, ◌<◌}
-use native.Mathlib.Nat.{add-zero}
 use native.Mathlib.Omega.{arith}
 use borrow.Author.Tests.{lt-ltb, le-ltb}
 use lib.Dec.{eqb}
-use lib.ListN.{length, take, set, get_or, length-append}
+use borrow.Rule.Slice.PartMut.{put_mid}
+use lib.ListN.{length, take, drop, set, length-append}
 use lib.Seq.{take_at}
 use lib.IntN.{ℤ}
 use Rattle.numeric.specs.Check.{first_holding}
-use Rattle.numeric.specs.Table.{tab}
 use Rattle.river.specs.declared.River.{River}
 use Rattle.river.specs.Rivers.{river_wrong}
-use Rattle.text.specs.Blocks.{blocks}
 use Rattle.text.specs.Decimals.{plain, decimal}
 use Rattle.text.specs.Writes.{put, put_within, copied}
-use Rattle.text.proofs.BlockLaws.{blocks-length, part-blocks, part-tab}
 use Rattle.text.proofs.DecimalLaws.{plain-length, decimal-length}
-use Rattle.text.proofs.WriteLaws.{put-length, put_all, put_within_lem, copied-accepted, grow, store, sets_put}
+use Rattle.text.proofs.WriteLaws.{put-length, put_all, put_within_lem, copied-accepted, grow, store, mid_written, front_written}
 use Rattle.record.specs.Lines.{line_bytes, cell_bytes, front, line, record_of}
-use Rattle.record.specs.Inner.Stages.{line_labels}
+use Rattle.record.specs.Inner.Stages.{labelled}
 use Rattle.record.specs.Writing.{write_number, output_after, work_after}
-use Rattle.record.proofs.LineLaws.{front_length, line-length, record_bytes}
+use Rattle.record.proofs.LineLaws.{record_bytes}
 
--- The two columns of the label of line k.
-label_columns : (count k : ℕ) → k < count
-    → get_or (line_labels count) (k * 2) 0 ∷ get_or (line_labels count) (k * 2 + 1) 0 ∷ [] ≡ plain 2 32 (k + 1)
-unfolding line_labels tab
-label_columns count k h =
-    let f : ℕ → List ℕ = λ i. plain 2 32 (i + 1) in
-    let long = blocks-length 2 count f (λ i. plain-length 2 32 (i + 1)) in
-    sym (rw add-zero at (part-tab (blocks count f) (k * 2) 2 (omega arith)))
-    ∙ part-blocks 2 f (λ i. plain-length 2 32 (i + 1)) count k h
+-- What stands before a value, over the first bytes of its line: the cell and the label, a blank behind each.
+front_put : (l a label x₁ x₂ : List ℕ) → 6 ≤ length l → length a ≡ 2 → length label ≡ 2 → x₁ ≡ a → x₂ ≡ label
+    → set (put_mid 3 2 (set (x₁ ++ drop 2 l) 2 32) x₂) 5 32 ≡ put l 0 (a ++ (32 ∷ []) ++ label ++ (32 ∷ []))
+front_put l a label x₁ x₂ room two two' e₁ e₂ =
+    let p₁ : x₁ ++ drop 2 l ≡ put l 0 a = front_written l x₁ a 2 two e₁ in
+    let p₂ : set (x₁ ++ drop 2 l) 2 32 ≡ put l 0 (a ++ (32 ∷ [])) = store l _ 0 2 2 32 a two refl (omega arith) p₁ in
+    let three : length (a ++ (32 ∷ [])) ≡ 3 = length-append a (32 ∷ []) ∙ omega arith in
+    let p₃ : put_mid 3 2 (set (x₁ ++ drop 2 l) 2 32) x₂ ≡ put l 0 (a ++ (32 ∷ []) ++ label) =
+    mid_written _ x₂ label 3 2 2 two' refl e₂ ∙ grow l _ 0 3 3 (a ++ (32 ∷ [])) label three refl (omega arith) p₂ in
+    let five : length (a ++ (32 ∷ []) ++ label) ≡ 5 = length-append (a ++ (32 ∷ [])) label ∙ omega arith in
+    store l _ 0 5 5 32 (a ++ (32 ∷ []) ++ label) five refl (omega arith) p₃
 
--- What stands before a value: the cell and the line's label, a blank behind each.
-pub front_written : (l l₁ labels : List ℕ) (cell count k : ℕ) → 6 ≤ length l → k < count → labels ≡ line_labels count
-    → l₁ ≡ put_within l 0 (plain 2 32 cell)
-    → set (set (set (set l₁ 2 32) 3 (get_or labels (k * 2) 0)) 4 (get_or labels (k * 2 + 1) 0)) 5 32
-    ≡ put l 0 (front cell (k + 1))
-unfolding front
-front_written l l₁ labels cell count k room h en e₁ =
-    let xs : List ℕ = 32 ∷ get_or labels (k * 2) 0 ∷ get_or labels (k * 2 + 1) 0 ∷ 32 ∷ [] in
-    let two = plain-length 2 32 cell in
-    let p₁ : l₁ ≡ put l 0 (plain 2 32 cell) = e₁ ∙ put_within_lem l 0 2 (plain 2 32 cell) two (omega arith) in
-    let kept : length l₁ ≡ length l = ap length p₁ ∙ put-length l 0 (plain 2 32 cell) (omega arith) in
-    sets_put l₁ 2 xs (omega arith)
-    ∙ grow l l₁ 0 2 2 (plain 2 32 cell) xs two refl (omega arith) p₁
-    ∙ rw (en, ← label_columns count k h) (simp append_assoc)
-
--- One line, over the part of a text that is to hold it: what stands before the value, the value and the line feed.
-pub line_written : (l l₁ l₂ : List ℕ) (cell k : ℕ) (z : ℤ) → length l ≡ line_bytes
-    → l₁ ≡ put l 0 (front cell k)
-    → l₂ ≡ put_within l₁ 6 (decimal 20 z)
-    → set l₂ 26 10 ≡ line cell k z
-unfolding line
-line_written l l₁ l₂ cell k z long e₁ e₂ =
-    let a = front cell k in
+-- One line over its bytes: what stands before the value, the value and the line feed.
+pub line_written : (l l₂ x₁ x₂ : List ℕ) (cell : ℕ) (label : List ℕ) (z : ℤ) → length l ≡ line_bytes → length label ≡ 2
+    → x₁ ≡ plain 2 32 cell
+    → x₂ ≡ label
+    → l₂ ≡ put_within (set (put_mid 3 2 (set (x₁ ++ drop 2 l) 2 32) x₂) 5 32) 6 (decimal 20 z)
+    → set l₂ 26 10 ≡ labelled cell label z
+unfolding labelled
+line_written l l₂ x₁ x₂ cell label z long two e₁ e₂ e =
+    let a = plain 2 32 cell ++ (32 ∷ []) ++ label ++ (32 ∷ []) in
     let b = a ++ decimal 20 z in
-    let la : length a ≡ 6 = front_length cell k in
+    let l₁ = set (put_mid 3 2 (set (x₁ ++ drop 2 l) 2 32) x₂) 5 32 in
+    let first : l₁ ≡ put l 0 a = front_put l (plain 2 32 cell) label x₁ x₂ (omega arith) (plain-length 2 32 cell) two e₁ e₂ in
+    let la : length a ≡ 6 = simp (length-append, plain-length) (omega arith) in
     let lb : length b ≡ 26 = length-append a (decimal 20 z) ∙ ap₂ ◌+◌ la (decimal-length 20 z) in
-    let kept : length l₁ ≡ length l = ap length e₁ ∙ put-length l 0 a (omega arith) in
+    let lc : length (b ++ (10 ∷ [])) ≡ 27 = length-append b (10 ∷ []) ∙ omega arith in
+    let kept : length l₁ ≡ length l = ap length first ∙ put-length l 0 a (omega arith) in
     let p₂ : l₂ ≡ put l 0 b =
-    e₂ ∙ put_within_lem l₁ 6 20 _ (decimal-length 20 z) (omega arith) ∙ grow l l₁ 0 6 6 a _ la refl (omega arith) e₁ in
-    store l l₂ 0 26 26 10 b lb refl (omega arith) p₂ ∙ put_all l (line cell k z) (line-length cell k z ∙ sym long)
+    e ∙ put_within_lem l₁ 6 20 _ (decimal-length 20 z) (omega arith) ∙ grow l l₁ 0 6 6 a _ la refl (omega arith) first in
+    store l l₂ 0 26 26 10 b lb refl (omega arith) p₂ ∙ put_all l (b ++ (10 ∷ [])) (lc ∙ sym long)
+
+-- A line with the label of its place.
+pub labelled_line : (cell k : ℕ) (label : List ℕ) (z : ℤ) → label ≡ plain 2 32 k → labelled cell label z ≡ line cell k z
+unfolding labelled line front
+labelled_line cell k label z e = rw e (simp append_assoc)
 
 -- The number of a write, by the checks.
 module _ (r : River) (output work : ℕ) where

@@ -29,7 +29,7 @@ pub(crate) fn records_of(rivers: [River; RIVERS]) -> [u8; ALL_BYTES] {
     let mut work = [0; BYTES];
     let mut r = 0;
     while r < RIVERS {
-        record::write_record(rivers[r], &mut output, &mut work);
+        let _ = record::write_record(rivers[r], &mut output, &mut work);
         copy_text(&mut texts, r * BYTES, &output);
         r += 1;
     }

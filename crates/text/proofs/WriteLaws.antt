@@ -8,6 +8,7 @@ use native.Mathlib.Nat.{zero-add, add-zero, add_assoc}
 use native.Mathlib.Numerals.{add-one}
 use native.Mathlib.Omega.{arith}
 use borrow.Author.Tests.{le-leb, lt-leb}
+use borrow.Rule.Slice.PartMut.{put_mid}
 use lib.Dec.{leb}
 use lib.ListN.{length, take, drop, set, get_or, length-append, length-take, length-drop, take-append-drop}
 use lib.ListN.{get_or-append}
@@ -37,13 +38,14 @@ pub put_all : (l xs : List ℕ) → length xs ≡ length l → put l 0 xs ≡ xs
 unfolding put
 put_all l xs e = rw (zero-add (length xs), e, drop-length l) (append-nil xs)
 
--- A part of a text in whose place stands another text of its length.
-pub part_written : (l mid xs : List ℕ) (at w : ℕ) → length xs ≡ w → mid ≡ xs
-    → take at l ++ (mid ++ drop (at + w - at) (drop at l)) ≡ put l at xs
+-- A part of a text, and its beginning, in whose place stands another text of its length.
+pub mid_written : (l ys xs : List ℕ) (at k w : ℕ) → length xs ≡ w → k ≡ w → ys ≡ xs → put_mid at k l ys ≡ put l at xs
 unfolding put
-part_written l mid xs at w long e =
-    let count : at + w - at ≡ w = omega arith in
-    rw (e, count, drop-drop w at l, long) refl
+mid_written l ys xs at k w long count e = rw (e, count, drop-drop w at l, long) refl
+
+pub front_written : (l ys xs : List ℕ) (w : ℕ) → length xs ≡ w → ys ≡ xs → ys ++ drop w l ≡ put l 0 xs
+unfolding put
+front_written l ys xs w long e = rw (e, zero-add (length xs), long) refl
 
 -- A write behind the text a.
 behind : (a b xs : List ℕ) (k : ℕ) → length a ≡ k → put (a ++ b) k xs ≡ a ++ (xs ++ drop (length xs) b)

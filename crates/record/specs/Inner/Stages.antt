@@ -1,17 +1,17 @@
 -- What the inner functions of the writer hand to each other. No assumptions.
-use Rattle.std.specs.Prelude.{ℕ, ◌+◌, ◌*◌, List, ℤ}
-use Rattle.text.specs.Blocks.{blocks}
-use Rattle.text.specs.Decimals.{plain}
+use Rattle.std.specs.Prelude.{ℕ, ◌+◌, ◌<◌, List, [], ◌∷◌, ◌++◌, ◌≡◌, ℤ, slice_index_or}
+use Rattle.text.specs.Decimals.{plain, decimal}
 use Rattle.text.specs.Writes.{put}
-use Rattle.record.specs.Lines.{lines, cell_bytes, cell_text, record_text, value_of}
+use Rattle.record.specs.Lines.{lines, record_text, value_of}
 
--- The labels of the first `count` lines of a cell: their places, from 1, in two columns each.
-unfoldable pub line_labels : ℕ → List ℕ
-line_labels count = blocks count (λ k. plain 2 32 (k + 1))
+-- The labels of the lines of a cell: their places, from 1, in two columns each.
+abbrev pub Labels : List (List ℕ) → Type 0
+Labels labels = (k : ℕ) → k < lines → slice_index_or labels k [] ≡ plain 2 32 (k + 1)
 
--- A text over which the lines of cell c are written at their place, and one over which those of the first n cells are.
-abbrev pub cell_put : List ℕ → List ℤ → List ℕ → ℕ → List ℕ
-cell_put out amounts carries c = put out (c * cell_bytes) (cell_text lines (value_of amounts carries) c)
+-- A line with a label for its place.
+unfoldable pub labelled : ℕ → List ℕ → ℤ → List ℕ
+labelled cell label value = plain 2 32 cell ++ (32 ∷ []) ++ label ++ (32 ∷ []) ++ decimal 20 value ++ (10 ∷ [])
 
+-- A text over which the lines of the first n cells are written.
 abbrev pub cells_put : List ℕ → List ℤ → List ℕ → ℕ → List ℕ
 cells_put out amounts carries n = put out 0 (record_text n lines (value_of amounts carries))

@@ -1,0 +1,22 @@
+-- `write_cells` meets its contract: one cell more. No assumptions.
+use Rattle.std.proofs.Common.{◌+◌, ◌*◌, ◌≤◌, sym, arith, length}
+use Rattle.text.specs.Blocks.{blocks}
+use Rattle.text.proofs.BlockLaws.{blocks_turn}
+use Rattle.text.proofs.WriteLaws.{put-none, mid_written}
+use Rattle.record.specs.Lines.{record_text, value_of, lines, cell_bytes}
+use Rattle.record.proofs.LineLaws.{cell-length}
+use Rattle.record.proofs.writing.write_cells.Goals as goal
+
+pub loop-c-init : goal.loop-c-init
+unfolding record_text blocks
+loop-c-init c = sym (put-none _ _)
+
+pub loop-c-preserved : goal.loop-c-preserved
+unfolding record_text
+loop-c-preserved c =
+    let n = c.loop-c.c in
+    let each = cell-length lines (value_of c.args.amounts.now c.args.carries.now) in
+    let put_there = mid_written c.loop-c.out _ _ (n * cell_bytes) _ cell_bytes (each n) (omega arith) c.write_cell.ensures in
+    let room : n * cell_bytes + cell_bytes ≤ length c.args.out.now = omega arith in
+    blocks_turn cell_bytes _ each c.args.out.now c.loop-c.out _ 0 (n * cell_bytes) n (omega arith) (omega arith)
+    c.loop-c.invariant put_there
