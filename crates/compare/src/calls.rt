@@ -1,12 +1,14 @@
 // The calls on a set and a river, each with its arguments from a line and its answer as number, digest and river.
 use crate::digest::{START, Told, of_river, with_amounts, with_byte, with_rows, with_signed};
 use crate::line::Line;
-use crate::records::Text;
+use crate::records::{Text, no_river};
 use crate::set::{Figures, set_of};
 use crate::{frames, pages, records, set};
 use kinetics::{Conditions, Temperatures};
-use river::{Changed, River};
+use river::{AMOUNTS, River};
+use stoichiometry::{Refusal, number_of};
 use totals::Totals;
+use transport::{Aired, Flowed};
 
 // What a call answered. A call that answers no river hands on the one it got.
 #[derive(Clone, Copy)]
@@ -24,10 +26,11 @@ fn told(answer: Told, river: River) -> Answer {
     }
 }
 
-fn changed(answer: Changed) -> Answer {
-    let river = answer.river;
+// By the river of an answer; where it is refused, by another one.
+fn changed(answer: Result<River, Refusal>, other: River) -> Answer {
+    let river = answer.unwrap_or(other);
     Answer {
-        number: answer.number,
+        number: number_of(&answer),
         digest: of_river(river),
         river,
     }
@@ -49,15 +52,23 @@ fn rows(figures: Figures) -> Told {
 }
 
 fn load(line: Line, river: River) -> Answer {
-    changed(transport::load_river(river, line.figure(0), line.figure(1), line.signed(2)))
+    changed(
+        transport::load_river(river, line.figure(0), line.figure(1), line.signed(2)),
+        river,
+    )
 }
 
 fn flow(line: Line, before: River) -> Answer {
     let answer = transport::flow_river(before, line.figure(0));
-    let river = answer.river;
+    let refused = Flowed {
+        river: before,
+        left: [0; AMOUNTS],
+    };
+    let flowed = answer.unwrap_or(refused);
+    let river = flowed.river;
     Answer {
-        number: answer.number,
-        digest: with_amounts(of_river(river), &answer.left),
+        number: number_of(&answer),
+        digest: with_amounts(of_river(river), &flowed.left),
         river,
     }
 }
@@ -70,10 +81,15 @@ fn air(line: Line, before: River) -> Answer {
         line.figure(2),
         line.figure(3),
     );
-    let river = answer.river;
+    let refused = Aired {
+        river: before,
+        amount: 0,
+    };
+    let aired = answer.unwrap_or(refused);
+    let river = aired.river;
     Answer {
-        number: answer.number,
-        digest: with_signed(of_river(river), answer.amount),
+        number: number_of(&answer),
+        digest: with_signed(of_river(river), aired.amount),
         river,
     }
 }
@@ -94,7 +110,10 @@ fn conditions(line: Line) -> Conditions {
 }
 
 fn step(line: Line, figures: Figures, river: River) -> Answer {
-    changed(step::step_river(set_of(figures), river, conditions(line)))
+    changed(
+        step::step_river(set_of(figures), river, conditions(line)),
+        river,
+    )
 }
 
 fn of_totals(t: Totals) -> u64 {
@@ -118,9 +137,13 @@ fn totals(line: Line, figures: Figures, river: River) -> Told {
 
 fn letter(line: Line, river: River) -> Told {
     let answer = river::letter_of(river, line.figure(0));
+    let byte = match answer {
+        Ok(letter) => letter.byte(),
+        Err(_) => 0,
+    };
     Told {
-        number: answer.number,
-        digest: with_byte(START, answer.letter),
+        number: number_of(&answer),
+        digest: with_byte(START, byte),
     }
 }
 
@@ -141,7 +164,7 @@ pub(crate) fn answer_of(line: Line, figures: Figures, river: River, text: Text) 
         b'C' => told(check(figures), river),
         b'R' => told(rows(figures), river),
         b'P' => told(set::published(figures), river),
-        b'N' => changed(River::fresh(line.figure(0))),
+        b'N' => changed(River::fresh(line.figure(0)), no_river()),
         b'L' => load(line, river),
         b'F' => flow(line, river),
         b'A' => air(line, river),

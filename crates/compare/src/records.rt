@@ -4,7 +4,8 @@ ghost use Rattle.std.specs.Prelude.{◌≤◌};
 use crate::digest::{START, Told, of_river, with, with_bytes};
 use crate::line::Line;
 use record::Record;
-use river::{Changed, River};
+use river::{AMOUNTS, CARRIES, River};
+use stoichiometry::{Refusal, number_of};
 
 // Room for more than a text of nine cells.
 pub(crate) const ROOM: usize = 8600;
@@ -126,11 +127,19 @@ pub(crate) fn written(line: Line, river: River) -> Told {
     write_both(river, &mut output[0..first], &mut work[0..second])
 }
 
-fn of_read(answer: Changed) -> Told {
-    let river = answer.river;
+// A river of no cells, which no call answers.
+pub(crate) fn no_river() -> River {
+    River {
+        cells: 0,
+        amounts: [0; AMOUNTS],
+        carries: [0; CARRIES],
+    }
+}
+
+fn of_read(answer: Result<River, Refusal>) -> Told {
     Told {
-        number: answer.number,
-        digest: of_river(river),
+        number: number_of(&answer),
+        digest: of_river(answer.unwrap_or(no_river())),
     }
 }
 

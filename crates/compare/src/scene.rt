@@ -2,7 +2,7 @@
 // alone.
 use crate::calls::{Answer, answer_of};
 use crate::line::Line;
-use crate::records::Text;
+use crate::records::{Text, no_river};
 use crate::set::Figures;
 use crate::tally::{KINDS, Pair, Tally, kind_of};
 use river::{AMOUNTS, CARRIES, River};
@@ -120,8 +120,7 @@ fn got(answer: Answer) -> Pair {
 impl Scene {
     pub(crate) fn new() -> Scene {
         let figures = Figures::zeros();
-        let none = River::fresh(0);
-        Scene::of(figures, none.river, Tally::new())
+        Scene::of(figures, no_river(), Tally::new())
     }
 
     // With no change for the next call.

@@ -5,7 +5,7 @@ ghost use Rattle.std.specs.Prelude.{◌≡◌, length};
 ghost use Rattle.page.specs.Writing.{page_number, page_after};
 
 use crate::writing::write_rows;
-use river::{River, river_fits};
+use river::River;
 use stoichiometry::refusal;
 
 mod writing;
@@ -36,7 +36,7 @@ pub fn write_page(river: River, output: &mut [u8]) -> u32
     ensures answer { result ≡ page_number river (length output.old) }
     ensures output { output.new ≡ page_after result river output.old }
 {
-    if !river_fits(river.cells, &river.amounts, &river.carries) {
+    if !river.fits() {
         return refusal::RIVER;
     }
     let n = river.cells as usize;

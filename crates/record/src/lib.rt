@@ -5,7 +5,7 @@ ghost use Rattle.std.specs.Prelude.{◌≡◌, length};
 ghost use Rattle.record.specs.Writing.{write_number, output_after, work_after};
 
 use crate::writing::write_cells;
-use river::{River, river_fits};
+use river::River;
 use stoichiometry::{PROCESSES, SUBSTANCES, refusal};
 use text::copy_bytes;
 
@@ -38,7 +38,7 @@ pub fn write_record(river: River, output: &mut [u8], work: &mut [u8]) -> u32
     ensures output { output.new ≡ output_after result river output.old }
     ensures work { work.new ≡ work_after result river work.old }
 {
-    if !river_fits(river.cells, &river.amounts, &river.carries) {
+    if !river.fits() {
         return refusal::RIVER;
     }
     let n = river.cells as usize;

@@ -1,19 +1,26 @@
 // What a step does once its set, its river and its conditions have passed their checks.
-ghost use Rattle.std.specs.Prelude.{◌≡◌, true, not};
+ghost use Rattle.std.specs.Prelude.{◌≡◌, ◌≤◌, true, not};
+ghost use Rattle.stoichiometry.specs.Refusals.{refusal_of};
 ghost use Rattle.step.specs.Steps.{batches_wrong, stepped_amounts, stepped_carries};
-ghost use Rattle.step.specs.Inner.Stepping.{StepReady, zero_amounts, zero_carries, river_with, answer_with};
+ghost use Rattle.step.specs.Inner.Stepping.{StepReady, zero_amounts, zero_carries, river_with};
 
 use crate::apply::apply_cells;
 use crate::cells::make_batches;
 use crate::split::batches_fit;
 use kinetics::Conditions;
-use river::{AMOUNTS, CARRIES, Changed, River};
-use stoichiometry::{ENTRIES, Set};
+use river::{AMOUNTS, CARRIES};
+use stoichiometry::{ENTRIES, Refusal, Set};
 
-pub(crate) fn answered(number: u32, river: River) -> Changed
-    ensures { result ≡ answer_with number river }
+// The refusal of a set, by its number.
+pub(crate) fn refused(number: u32) -> Refusal
+    requires { (1 ≤ number) × (number ≤ 3) }
+    ensures { result ≡ refusal_of number }
 {
-    Changed { number, river }
+    match number {
+        1 => Refusal::Fractions,
+        2 => Refusal::Figures,
+        _ => Refusal::Rows,
+    }
 }
 
 // Writes the amounts and the carries after into lists of zeros; answers whether check 7 is passed, and if it is not,

@@ -13,18 +13,18 @@ use Rattle.page.proofs.write_page.Statement.{statement}
 use Rattle.page.proofs.write_page.Tie as tie
 
 -- The start, from the test of the river.
-abbrev begun : tie.After-river_fits → tie.Start
-begun c = let lent = c.before.before in lent.before.before
+abbrev begun : tie.After-fits → tie.Start
+begun c = c.before.before.before
 
-wrong : (c : tie.After-river_fits) → river_wrong (begun c).args.river ≡ not c.river_fits.result
-wrong c = wrong_tested (begun c).args.river _ c.river_fits.ensures
+wrong : (c : tie.After-fits) → river_wrong (begun c).args.river ≡ not c.fits.result
+wrong c = wrong_tested (begun c).args.river _ c.fits.ensures
 
 -- Check 4 does not hold.
-right : (c : tie.Else-not-river_fits) → river_wrong (begun c.before).args.river ≡ false
-right c = wrong c.before ∙ c.if-not-river_fits.false-raw
+right : (c : tie.Else-not-fits) → river_wrong (begun c.before).args.river ≡ false
+right c = wrong c.before ∙ c.if-not-fits.false-raw
 
-returns : tie.Need-returns-then-not-river_fits
-returns c = stays _ _ 4 refl (river_refused _ _ (wrong c.before ∙ c.if-not-river_fits.true-raw))
+returns : tie.Need-returns-then-not-fits
+returns c = stays _ _ 4 refl (river_refused _ _ (wrong c.before ∙ c.if-not-fits.true-raw))
 
 returns_2 : tie.Need-returns-then-output-n
 returns_2 c = stays _ _ 12 refl (space_refused _ _ (right c.before) (omega (arith, c.if-output-n.true)))
@@ -32,7 +32,7 @@ returns_2 c = stays _ _ 12 refl (space_refused _ _ (right c.before) (omega (arit
 write_rows_requires : tie.Need-write_rows-requires
 write_rows_requires c κs =
     let room : tie.Else-output-n = search in
-    let tested : tie.Else-not-river_fits = search in
+    let tested : tie.Else-not-fits = search in
     let r = (begun tested.before).args.river in
     (((river-cells r (right tested)).1, omega (arith, room.if-output-n.false)), cell_fits_lem r (right tested))
 
@@ -41,7 +41,7 @@ unfolding page_of
 returns_3 c =
     let written : tie.After-write_rows = search in
     let room : tie.Else-output-n = search in
-    let tested : tie.Else-not-river_fits = search in
+    let tested : tie.Else-not-fits = search in
     let args = (begun tested.before).args in (
       sym (page_accepted args.river _ (right tested) (omega (arith, room.if-output-n.false))),
       written.write_rows.ensures ∙ sym (page_written args.river args.output.now),

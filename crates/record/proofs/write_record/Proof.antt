@@ -14,18 +14,18 @@ use Rattle.record.proofs.write_record.Statement.{statement}
 use Rattle.record.proofs.write_record.Tie as tie
 
 -- The start, from the test of the river.
-abbrev begun : tie.After-river_fits → tie.Start
-begun c = let lent = c.before.before.before in lent.before.before
+abbrev begun : tie.After-fits → tie.Start
+begun c = let lent = c.before.before in lent.before.before
 
-wrong : (c : tie.After-river_fits) → river_wrong (begun c).args.river ≡ not c.river_fits.result
-wrong c = wrong_tested (begun c).args.river _ c.river_fits.ensures
+wrong : (c : tie.After-fits) → river_wrong (begun c).args.river ≡ not c.fits.result
+wrong c = wrong_tested (begun c).args.river _ c.fits.ensures
 
 -- Check 4 does not hold.
-right : (c : tie.Else-not-river_fits) → river_wrong (begun c.before).args.river ≡ false
-right c = wrong c.before ∙ c.if-not-river_fits.false-raw
+right : (c : tie.Else-not-fits) → river_wrong (begun c.before).args.river ≡ false
+right c = wrong c.before ∙ c.if-not-fits.false-raw
 
-returns : tie.Need-returns-then-not-river_fits
-returns c = stays _ _ _ 4 refl (river_refused _ _ _ (wrong c.before ∙ c.if-not-river_fits.true-raw))
+returns : tie.Need-returns-then-not-fits
+returns c = stays _ _ _ 4 refl (river_refused _ _ _ (wrong c.before ∙ c.if-not-fits.true-raw))
 
 returns_2 : tie.Need-returns-then-output-bytes
 returns_2 c = stays _ _ _ 10 refl (output_refused _ _ _ (right c.before) c.if-output-bytes.true)

@@ -1,0 +1,60 @@
+-- `read_record` meets its contract: each return is one case of what a record is (proofs/ReadAnswers.antt). No
+-- assumptions.
+use Rattle.std.proofs.Common.{◌/◌, true, false, not, length, sym, ap, ◌∙◌, refl, arith, Ok}
+use mir.Facts.{Fits-below}
+use Rattle.river.specs.declared.River.{River}
+use Rattle.river.proofs.Rivers.{wrong_tested}
+use Rattle.record.specs.Lines.{cell_bytes}
+use Rattle.record_reading.specs.Reading.{river_in, is_record}
+use Rattle.record_reading.proofs.ReadAnswers.{answer-accepted, read_refused, size_known}
+use Rattle.record_reading.proofs.read_record.Goals as goal
+
+pub returns-then-not-size_fits : goal.returns-then-not-size_fits
+unfolding is_record
+returns-then-not-size_fits c = record { answer = sym (read_refused c.args.text.now (rw (← c.if-not-size_fits.ensures))) }
+
+pub overflow_cast-river : goal.overflow_cast-river
+overflow_cast-river c =
+    let size = size_known c.args.text.now (sym c.if-not-size_fits.ensures) in
+    Fits-below {n = 9} tt (omega (arith, size))
+
+pub read_cells-requires-clause-cells_in_text : goal.read_cells-requires-clause-cells_in_text
+read_cells-requires-clause-cells_in_text c =
+    let size = size_known c.args.text.now (sym c.if-not-size_fits.ensures) in
+    (size.0, omega (arith, size.1))
+
+pub returns-then-not-read_cells : goal.returns-then-not-read_cells
+unfolding is_record
+returns-then-not-read_cells c =
+    record {
+      answer =
+          sym
+          (read_refused c.args.text.now (rw (← c.if-not-size_fits.ensures, ← c.if-not-read_cells.ensures.value)));
+    }
+
+pub returns-then-not-fits : goal.returns-then-not-fits
+unfolding is_record river_in
+returns-then-not-fits c =
+    let amounts = c.if-not-read_cells.ensures.amounts_after refl in
+    let carries = c.if-not-read_cells.ensures.carries_after refl in
+    let wrong = rw (amounts, carries) at (wrong_tested _ false c.if-not-fits.ensures.answer) in
+    record {
+      answer =
+          sym
+          (read_refused c.args.text.now
+          (rw (← c.if-not-size_fits.ensures, ← c.if-not-read_cells.ensures.value, wrong)));
+    }
+
+pub returns : goal.returns
+unfolding is_record river_in
+returns c =
+    let amounts = c.if-not-read_cells.ensures.amounts_after refl in
+    let carries = c.if-not-read_cells.ensures.carries_after refl in
+    let right = rw (amounts, carries) at (wrong_tested _ true c.if-not-fits.ensures.answer) in
+    record {
+      answer =
+          rw (amounts, carries)
+          (sym
+          (answer-accepted c.args.text.now
+          (rw (← c.if-not-size_fits.ensures, ← c.if-not-read_cells.ensures.value, right))));
+    }
