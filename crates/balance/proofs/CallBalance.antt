@@ -3,7 +3,6 @@
 -- got, or none of its checks holds. Lists of calls: ListBalance.antt. No assumptions.
 use Prim.Native.Nat.{ℕ, suc, ◌+◌, ◌*◌, ◌-◌, ◌≤◌, ◌<◌}
 use mathlib.Core.Bool.{true, false, cond}
-use mathlib.Core.List.{[]}
 use mathlib.Core.Path.{◌≡◌, refl, sym, ◌∙◌}
 use native.Mathlib.Omega.{arith}
 use lib.Dec.{eqb, lit<}
@@ -11,7 +10,14 @@ use lib.ListN.{length}
 use lib.IntN.{ℤ, pos, ◌+ℤ◌, +ℤ_idr}
 use borrow.Author.Tests.{eq-eqb, ne_eqb, not-false}
 use Rattle.numeric.proofs.CheckLaws.{and_left, and_right, none_holds, by_number}
+use Rattle.std.specs.Prelude.{Result}
+use Rattle.std.specs.Result.{result_unwrap_or}
+use Rattle.stoichiometry.specs.declared.refusals.Refusal.{Refusal}
+use Rattle.stoichiometry.specs.declared.refusals.Refusal.TheVariants.{Fractions, Figures, Rows, Place, Batches, Bounds}
+use Rattle.stoichiometry.specs.declared.refusals.Refusal.TheVariants.{River as RiverWrong, Conditions as ConditionsWrong}
+use Rattle.stoichiometry.specs.declared.refusals.Refusal.TheVariants.{Reading, Space, Text, Page}
 use Rattle.stoichiometry.specs.declared.Set.{Set}
+use Rattle.stoichiometry.specs.Refusals.{number}
 use Rattle.stoichiometry.specs.Substances.{substances, o2, place, Total, contents}
 use Rattle.stoichiometry.specs.Totals.{cell_total}
 use Rattle.stoichiometry.proofs.Totals.{added}
@@ -19,14 +25,13 @@ use Rattle.kinetics.specs.declared.Conditions.{Conditions}
 use Rattle.river.specs.declared.River.{River}
 use Rattle.river.specs.Rivers.{amounts_fit, river_wrong, cell_exists, substance_exists}
 use Rattle.river.proofs.Rivers.{river-cells, cell_bound, substance_bound}
-use Rattle.transport.specs.declared.Flowed.{Flowed}
-use Rattle.transport.specs.declared.Aired.{Aired}
 use Rattle.transport.specs.Load.{load_number, load_answer}
 use Rattle.transport.specs.Flow.{left_of, flow_number, flow_answer}
 use Rattle.transport.specs.Air.{gain_at, air_number, air_answer}
 use Rattle.step.specs.Steps.{stepped_amounts, step_number, step_answer}
 use Rattle.balance.specs.Calls.{Call, load, flow, air, step, Answer, among, booked}
-use Rattle.balance.specs.Held.{act, held}
+use Rattle.balance.specs.Held.{CallDone, act, held, changed, flowed, aired}
+use Rattle.balance.specs.Held.{refused as refused_call}
 use Rattle.balance.proofs.CellBalance.{step_keeps_cell}
 use Rattle.balance.proofs.HeldLaws.{held_added, held-flow, held-step}
 use Rattle.balance.proofs.Soundness.{SoundRiver, sound_cells, sound_amount, sound_flow, sound_step}
@@ -54,6 +59,21 @@ step-passes set r conditions e =
     let none = none_holds _ refl e in
     (none.1.1.1.0, not-false _ none.1.1.1.1.1.1.0)
 
+-- No refusal has the number 0.
+numbered : (refusal : Refusal) → number refusal ≡ 0 → ⊥
+numbered Fractions e = omega arith
+numbered Figures e = omega arith
+numbered Rows e = omega arith
+numbered RiverWrong e = omega arith
+numbered Place e = omega arith
+numbered ConditionsWrong e = omega arith
+numbered Batches e = omega arith
+numbered Bounds e = omega arith
+numbered Reading e = omega arith
+numbered Space e = omega arith
+numbered Text e = omega arith
+numbered Page e = omega arith
+
 module _ (set : Set) (n : ℕ) (r : River) (sound : SoundRiver n r) where
   accepted : (call : Call) (a : Answer) (q : River) → a.number ≡ 0 → SoundRiver n q
       → ChangedBy set n r q (λ i j t. booked set t i j call a) → CallKept set n r call a q
@@ -77,80 +97,74 @@ module _ (set : Set) (n : ℕ) (r : River) (sound : SoundRiver n r) where
       let e : suc (cell - 1) ≡ cell = omega arith in
       rw e at (held_added set t r.amounts (cell - 1) s x i j k there p)
 
+  -- What is known of a call by what it answers: a call done, or its refusal.
+  abbrev Kept : Call → CallDone → Type 0
+  Kept call d = CallKept set n r call d.answer d.river
+
+  refused_kept : (call : Call) (refusal : Refusal) → Kept call (refused_call r refusal)
+  refused_kept call refusal = refused call _ (numbered refusal)
+
   -- Load: one amount changed.
   load_kept : (cell substance : ℕ) (x : ℤ)
-      → CallKept set n r (load cell substance x)
-      (record { number = load_number r cell substance x; left = []; amount = pos 0 })
-      (load_answer r cell substance x).river
+      → Kept (load cell substance x) (changed r (load_answer r cell substance x))
   unfolding load_answer load_number
   load_kept cell substance x =
       let call = load cell substance x in
-      let a : Answer = record { number = load_number r cell substance x; left = []; amount = pos 0 } in
-      by_number (CallKept set n r call a) (load_number r cell substance x) _ r
+      by_number (λ a. Kept call (changed r a)) (load_number r cell substance x) _ _
       (λ e. let none = none_holds _ refl e in
       let exist = not-false _ none.1.0 in
       let at_cell = cell_bound r cell (and_left (cell_exists r cell) (substance_exists substance) exist) in
       let at_place = substance_bound substance (and_right (cell_exists r cell) (substance_exists substance) exist) in
       let there : substance - 1 < substances = omega arith in
       let fits = not-false _ none.1.1.0 in
-      accepted call a _ e
+      accepted call _ _ refl
       (sound_amount n r sound (cell - 1) (substance - 1) _ (omega (arith, sound.cells)) there fits)
       (λ i j p l m t. added_balance cell (substance - 1) x at_cell there i j p t))
-      (refused call a)
+      (λ f. refused_kept call _)
 
   -- Flow: what leaves a cell comes to the next.
-  abbrev flow_gives : Flowed → Answer
-  flow_gives f = record { number = f.number; left = f.left; amount = pos 0 }
-
-  flow_kept : (part : ℕ) → CallKept set n r (flow part) (flow_gives (flow_answer r part)) (flow_answer r part).river
+  flow_kept : (part : ℕ) → Kept (flow part) (flowed r (flow_answer r part))
   unfolding flow_answer flow_number
   flow_kept part =
       let left = left_of part r.amounts in
       let most = (river-cells r sound.right).1 in
-      by_number (λ f. CallKept set n r (flow part) (flow_gives f) f.river) (flow_number r part) _ _
+      by_number (λ a. Kept (flow part) (flowed r a)) (flow_number r part) _ _
       (λ e. accepted (flow part) _ _ refl
       (sound_flow n r sound left (not-false _ (none_holds _ refl e).1.1.0))
       (λ i j p l m t.
       held-flow set t r.cells r.amounts left i j p l (omega (arith, sound.cells)) most))
-      (refused (flow part) _)
+      (λ f. refused_kept (flow part) _)
 
   -- Air: one amount changed, by the gain.
-  abbrev air_gives : Aired → Answer
-  air_gives f = record { number = f.number; left = []; amount = f.amount }
-
   air_kept : (cell k seconds saturation : ℕ)
-      → CallKept set n r (air cell k seconds saturation) (air_gives (air_answer r cell k seconds saturation))
-      (air_answer r cell k seconds saturation).river
+      → Kept (air cell k seconds saturation) (aired r (air_answer r cell k seconds saturation))
   unfolding air_answer air_number
   air_kept cell k seconds saturation =
       let call = air cell k seconds saturation in
       let gain = gain_at r (cell - 1) k seconds saturation in
-      by_number (λ f. CallKept set n r call (air_gives f) f.river) (air_number r cell k seconds saturation) _ _
+      by_number (λ a. Kept call (aired r a)) (air_number r cell k seconds saturation) _ _
       (λ e. let none = none_holds _ refl e in
       let at_cell = cell_bound r cell (not-false _ none.1.0) in
       let fits = not-false _ none.1.1.1.0 in
       accepted call _ _ refl
       (sound_amount n r sound (cell - 1) (place o2) _ (omega (arith, sound.cells)) (lit< tt) fits)
       (λ i j p l m t. added_balance cell (place o2) gain at_cell (lit< tt) i j p t))
-      (refused call _)
+      (λ f. refused_kept call _)
 
   -- Step: every cell keeps what it holds.
-  step_kept : (conditions : Conditions)
-      → CallKept set n r (step conditions)
-      (record { number = step_number set r conditions; left = []; amount = pos 0 }) (step_answer set r conditions).river
+  step_kept : (conditions : Conditions) → Kept (step conditions) (changed r (step_answer set r conditions))
   unfolding step_answer
   step_kept conditions =
       let call = step conditions in
-      let a : Answer = record { number = step_number set r conditions; left = []; amount = pos 0 } in
-      by_number (CallKept set n r call a) (step_number set r conditions) _ r
-      (λ e. accepted call a _ e (sound_step set conditions n r sound (step-passes set r conditions e).1)
+      by_number (λ a. Kept call (changed r a)) (step_number set r conditions) _ _
+      (λ e. accepted call _ _ refl (sound_step set conditions n r sound (step-passes set r conditions e).1)
       (λ i j p l m t.
       held-step set t conditions r i j p (omega (arith, sound.cells)) (river-cells r sound.right).1
       ∙ sym (+ℤ_idr (held set t r.amounts i j))))
-      (refused call a)
+      (λ f. refused_kept call _)
 
-  call_kept : (call : Call) → CallKept set n r call (act set call r).answer (act set call r).river
-  unfolding act load_answer step_answer
+  call_kept : (call : Call) → Kept call (act set call r)
+  unfolding act
   call_kept (load cell substance x) = load_kept cell substance x
   call_kept (flow part) = flow_kept part
   call_kept (air cell k seconds saturation) = air_kept cell k seconds saturation
@@ -168,9 +182,10 @@ module _ (set : Set) (n : ℕ) (r : River) (sound : SoundRiver n r) where
 
 -- Accepted or refused, a step alone keeps every total of every cell of any river.
 pub step_keeps_totals : (set : Set) (r : River) (conditions : Conditions) (t : Total) (c : ℕ) → c < r.cells
-    → cell_total set t (step_answer set r conditions).river.amounts c ≡ cell_total set t r.amounts c
+    → cell_total set t (result_unwrap_or (step_answer set r conditions) r).amounts c ≡ cell_total set t r.amounts c
 unfolding step_answer
 step_keeps_totals set r conditions t c h =
-    by_number (λ q. cell_total set t q.amounts c ≡ cell_total set t r.amounts c) (step_number set r conditions) _ r
+    by_number (λ (a : Result River Refusal). cell_total set t (result_unwrap_or a r).amounts c ≡ cell_total set t r.amounts c)
+    (step_number set r conditions) _ _
     (λ e. step_keeps_cell set t conditions r c h (omega (arith, river-cells r (step-passes set r conditions e).0)))
     (λ f. refl)

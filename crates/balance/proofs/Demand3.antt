@@ -5,7 +5,8 @@
 use Prim.Native.Nat.{ℕ, ◌≤◌}
 use mathlib.Core.Bool.{false}
 use mathlib.Core.List.{List}
-use mathlib.Core.Path.{◌≡◌, refl}
+use mathlib.Core.Path.{◌≡◌}
+use Rattle.std.specs.Prelude.{Ok}
 use Rattle.stoichiometry.specs.declared.Set.{Set}
 use Rattle.stoichiometry.specs.Substances.{Total}
 use Rattle.stoichiometry.specs.Sets.{Accepted}
@@ -17,11 +18,11 @@ use Rattle.balance.proofs.Soundness.{sound_zero}
 use Rattle.balance.proofs.ListBalance.{after_keeps, fresh_balance}
 
 pub calls_balance : (set : Set) → Accepted set → (n : ℕ) → 1 ≤ n → n ≤ most_cells → (calls : List Call)
-    → let fresh = fresh_answer n in
-    let r = after set calls fresh.river in
-    (fresh.number ≡ 0) × (river_wrong r ≡ false) × (r.cells ≡ n)
+    → let fresh = zero_river n in
+    let r = after set calls fresh in
+    (fresh_answer n ≡ Ok fresh) × (river_wrong r ≡ false) × (r.cells ≡ n)
     × ((i j : ℕ) → 1 ≤ i → i ≤ j → j ≤ n → (t : Total)
-    → held set t r.amounts i j ≡ book set t i j (answered set calls fresh.river))
+    → held set t r.amounts i j ≡ book set t i j (answered set calls fresh))
 calls_balance set accepted n low high calls =
     let kept = after_keeps set n calls (zero_river n) (sound_zero n low high) in
-    rw (fresh-accepted n low high) (refl, kept.right, kept.cells, fresh_balance set calls n low high)
+    (fresh-accepted n low high, kept.right, kept.cells, fresh_balance set calls n low high)

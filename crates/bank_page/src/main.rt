@@ -15,19 +15,17 @@ const PAGE_BYTES: usize = River::CELLS_MOST * Page::ROW_BYTES;
 fn main(rt: HostRuntime) -> io::Result<()> {
     let mut text = [0; LONGEST + 1];
     let n = read_full(&mut rt.reader(), &mut text)?;
-    let read = record_reading::read_record(&text[..n]);
     let mut output = [0; PAGE_BYTES];
-    let river = read.river;
-    let number = read.number;
-    if number == 0 {
-        if page::write_page(river, &mut output).is_ok() {
-            let bytes = river.cells as usize * Page::ROW_BYTES;
-            if bytes <= PAGE_BYTES {
-                rt.write_all(&output[0..bytes])?;
+    match record_reading::read_record(&text[..n]) {
+        Err(refusal) => rt.println(refusal.number())?,
+        Ok(river) => {
+            if page::write_page(river, &mut output).is_ok() {
+                let bytes = river.cells as usize * Page::ROW_BYTES;
+                if bytes <= PAGE_BYTES {
+                    rt.write_all(&output[0..bytes])?;
+                }
             }
         }
-    } else {
-        rt.println(number)?;
     }
     Ok(())
 }

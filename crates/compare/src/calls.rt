@@ -2,35 +2,45 @@
 use crate::digest::{Answer, Digest};
 use crate::kinds::Call;
 use crate::line::Line;
-use crate::records::Text;
+use crate::records::{Text, no_river};
 use crate::set::Figures;
 use crate::{frames, pages, records, set};
 use kinetics::{Conditions, Temperatures};
-use river::{Changed, River};
-use stoichiometry::Set;
+use river::{AMOUNTS, Letter, River};
+use stoichiometry::{ENTRIES, Refusal, Set, number_of};
 use totals::Totals;
+use transport::{Aired, Flowed};
 
-// The river that a call answers becomes the river.
-fn changed(answer: Changed, river: &mut River) -> Answer {
-    *river = answer.river;
+// The river that a call answers becomes the river; a refused call leaves it.
+fn changed(answer: Result<River, Refusal>, river: &mut River) -> Answer {
+    *river = answer.unwrap_or(*river);
     Answer {
-        number: answer.number,
+        number: number_of(&answer),
         digest: Digest::of_river(river),
     }
 }
 
+fn fresh(line: &Line, river: &mut River) -> Answer {
+    *river = no_river();
+    changed(River::fresh(line.figure(0)), river)
+}
+
 fn check(figures: &Figures) -> Answer {
     Answer {
-        number: rows::number_of(Set::from(figures)),
+        number: number_of(&rows::check(Set::from(figures))),
         digest: Digest::START,
     }
 }
 
+// A refused set has the digest of rows of zeros.
 fn rows(figures: &Figures) -> Answer {
     let answer = rows::rows_of(Set::from(figures));
+    let refused = rows::Rows {
+        entries: [0; ENTRIES],
+    };
     Answer {
-        number: answer.number,
-        digest: Digest::START.with_all(&answer.entries),
+        number: number_of(&answer),
+        digest: Digest::START.with_all(&answer.unwrap_or(refused).entries),
     }
 }
 
@@ -40,13 +50,18 @@ fn load(line: &Line, river: &mut River) -> Answer {
     changed(answer, river)
 }
 
+// A refused flow has the digest of a list of zeros.
 fn flow(line: &Line, river: &mut River) -> Answer {
-    let before = *river;
-    let answer = transport::flow_river(before, line.figure(0));
-    *river = answer.river;
+    let answer = transport::flow_river(*river, line.figure(0));
+    let refused = Flowed {
+        river: *river,
+        left: [0; AMOUNTS],
+    };
+    let flowed = answer.unwrap_or(refused);
+    *river = flowed.river;
     Answer {
-        number: answer.number,
-        digest: Digest::of_river(river).with_all(&answer.left),
+        number: number_of(&answer),
+        digest: Digest::of_river(river).with_all(&flowed.left),
     }
 }
 
@@ -59,10 +74,15 @@ fn air(line: &Line, river: &mut River) -> Answer {
         line.figure(2),
         line.figure(3),
     );
-    *river = answer.river;
+    let refused = Aired {
+        river: before,
+        amount: 0,
+    };
+    let aired = answer.unwrap_or(refused);
+    *river = aired.river;
     Answer {
-        number: answer.number,
-        digest: Digest::of_river(river).with(answer.amount),
+        number: number_of(&answer),
+        digest: Digest::of_river(river).with(aired.amount),
     }
 }
 
@@ -110,9 +130,10 @@ fn totals(line: &Line, figures: &Figures, river: River) -> Answer {
 
 fn letter(line: &Line, river: River) -> Answer {
     let answer = river::letter_of(river, line.figure(0));
+    let byte = answer.map_or(0, Letter::byte);
     Answer {
-        number: answer.number,
-        digest: Digest::START.with(i64::from(answer.letter)),
+        number: number_of(&answer),
+        digest: Digest::START.with(i64::from(byte)),
     }
 }
 
@@ -136,7 +157,7 @@ pub(crate) fn answer_of(
         Call::Check => check(figures),
         Call::Rows => rows(figures),
         Call::Published => set::published(figures),
-        Call::Fresh => changed(River::fresh(line.figure(0)), river),
+        Call::Fresh => fresh(line, river),
         Call::Load => load(line, river),
         Call::Flow => flow(line, river),
         Call::Air => air(line, river),

@@ -4,8 +4,8 @@ ghost use Rattle.std.specs.Prelude.{◌≤◌};
 use crate::digest::{Answer, Digest};
 use crate::line::Line;
 use record::Record;
-use river::{Changed, River};
-use stoichiometry::number_of;
+use river::{AMOUNTS, CARRIES, River};
+use stoichiometry::{Refusal, number_of};
 
 // Room for more than a text of nine cells.
 pub(crate) const ROOM: usize = 8600;
@@ -87,11 +87,19 @@ pub(crate) fn written(line: &Line, river: River) -> Answer {
     write_both(river, &mut output[0..first], &mut work[0..second])
 }
 
-fn of_read(answer: Changed) -> Answer {
-    let river = answer.river;
+// A river of no cells, which no call answers.
+pub(crate) fn no_river() -> River {
+    River {
+        cells: 0,
+        amounts: [0; AMOUNTS],
+        carries: [0; CARRIES],
+    }
+}
+
+fn of_read(answer: Result<River, Refusal>) -> Answer {
     Answer {
-        number: answer.number,
-        digest: Digest::of_river(&river),
+        number: number_of(&answer),
+        digest: Digest::of_river(&answer.unwrap_or(no_river())),
     }
 }
 

@@ -3,7 +3,7 @@
 use crate::calls::answer_of;
 use crate::kinds::{Call, Change, Kind};
 use crate::line::Line;
-use crate::records::Text;
+use crate::records::{Text, no_river};
 use crate::set::Figures;
 use crate::tally::Tally;
 use river::River;
@@ -27,10 +27,9 @@ pub(crate) struct Scene {
 
 impl Scene {
     pub(crate) fn new() -> Scene {
-        let none = River::fresh(0);
         Scene {
             figures: Figures::ZEROS,
-            river: none.river,
+            river: no_river(),
             changed: Changes::default(),
             tally: Tally::new(),
         }

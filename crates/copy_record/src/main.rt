@@ -12,20 +12,18 @@ const LONGEST: usize = River::CELLS_MOST * Record::CELL_BYTES;
 fn main(rt: HostRuntime) -> io::Result<()> {
     let mut text = [0; LONGEST + 1];
     let n = read_full(&mut rt.reader(), &mut text)?;
-    let read = record_reading::read_record(&text[..n]);
     let mut output = [0; LONGEST];
     let mut work = [0; LONGEST];
-    let river = read.river;
-    let number = read.number;
-    if number == 0 {
-        if record::write_record(river, &mut output, &mut work).is_ok() {
-            let bytes = river.cells as usize * Record::CELL_BYTES;
-            if bytes <= LONGEST {
-                rt.write_all(&output[0..bytes])?;
+    match record_reading::read_record(&text[..n]) {
+        Err(refusal) => rt.println(refusal.number())?,
+        Ok(river) => {
+            if record::write_record(river, &mut output, &mut work).is_ok() {
+                let bytes = river.cells as usize * Record::CELL_BYTES;
+                if bytes <= LONGEST {
+                    rt.write_all(&output[0..bytes])?;
+                }
             }
         }
-    } else {
-        rt.println(number)?;
     }
     Ok(())
 }

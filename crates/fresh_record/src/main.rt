@@ -6,10 +6,10 @@ use record::Record;
 use river::River;
 
 fn main(rt: HostRuntime) -> Result<()> {
-    let fresh = River::fresh(1);
+    let fresh = River::fresh(1)?;
     let mut output = [0; Record::CELL_BYTES];
     let mut work = [0; Record::CELL_BYTES];
-    record::write_record(fresh.river, &mut output, &mut work)?;
+    record::write_record(fresh, &mut output, &mut work)?;
     rt.write_all(&output)?;
     Ok(())
 }

@@ -10,6 +10,7 @@ use lib.Dec.{ltb, lit<}
 use lib.IntN.{ℤ}
 use lib.ListN.{length, take, drop, get_or}
 use lib.Seq.{get_or-take, get_or-drop}
+use Rattle.std.specs.Prelude.{Ok}
 use Rattle.numeric.specs.Check.{every, first_holding}
 use Rattle.numeric.proofs.CheckLaws.{every_at}
 use Rattle.stoichiometry.specs.Substances.{Substance, substances, o2, nh4, place}
@@ -18,7 +19,9 @@ use Rattle.stoichiometry.specs.Totals.{amount_at}
 use Rattle.stoichiometry.proofs.Contents.{place_lt}
 use Rattle.river.specs.declared.River.{River}
 use Rattle.river.specs.Rivers.{river_wrong, cell_exists}
-use Rattle.river.specs.Cells.{letter_by, letter_of, letter_number, letter_answer}
+use Rattle.river.specs.declared.Letter.{Letter}
+use Rattle.river.specs.declared.Letter.TheVariants.{LowOxygen, HighAmmonium, Neither}
+use Rattle.river.specs.Cells.{byte, letter_of, letter_number, letter_answer}
 use Rattle.river.specs.Inner.Runs.{net_at}
 use Rattle.river.proofs.Bounds.{fits-level}
 use Rattle.river.proofs.Levels.{level_bound}
@@ -33,16 +36,10 @@ use Rattle.page.proofs.LevelLaws.{grams_widest, grams-read}
 use Rattle.page.proofs.RowLaws.{row-length, row_is}
 
 -- The letter is a character.
-letter_character : (amounts : List ℤ) (c : ℕ) → Character (letter_of amounts c)
-unfolding letter_of letter_by
-letter_character amounts c =
-    one_of (ltb (level_of o2 (amount_at amounts c (place o2))) 2000000)
-    (ltb 1000000 (level_of nh4 (amount_at amounts c (place nh4))))
-  where
-    one_of : (low high : Bool) → Character (cond low 76 (cond high 78 45))
-    one_of true high = (omega arith, omega arith)
-    one_of false true = (omega arith, omega arith)
-    one_of false false = (omega arith, omega arith)
+letter_character : (letter : Letter) → Character (byte letter)
+letter_character LowOxygen = (omega arith, omega arith)
+letter_character HighAmmonium = (omega arith, omega arith)
+letter_character Neither = (omega arith, omega arith)
 
 -- The row of any cell is 64 characters and a line feed, and has 65 bytes.
 module _ (amounts : List ℤ) (c : ℕ) where
@@ -52,11 +49,11 @@ module _ (amounts : List ℤ) (c : ℕ) where
 
   pub row_of-length : length (row_of amounts c) ≡ row_bytes
   unfolding row_of
-  row_of-length = row-length (c + 1) (letter_of amounts c) (levels_at amounts c) six
+  row_of-length = row-length (c + 1) (byte (letter_of amounts c)) (levels_at amounts c) six
 
   pub row_of-is : IsRow (row_of amounts c)
   unfolding row_of
-  row_of-is = row_is (c + 1) (letter_of amounts c) (levels_at amounts c) six (letter_character amounts c)
+  row_of-is = row_is (c + 1) (byte (letter_of amounts c)) (levels_at amounts c) six (letter_character (letter_of amounts c))
 
 -- A page has 65 bytes for each cell.
 pub page_length : (r : River) → length (page_of r) ≡ r.cells * row_bytes
@@ -74,14 +71,16 @@ module _ (r : River) (cell : ℕ) (exists : cell_exists r cell ≡ true) where
 
   -- The letter on it is the one that `letter_of` answers.
   pub page_letter : river_wrong r ≡ false
-      → get_or (page_of r) ((cell - 1) * row_bytes + 3) 0 ≡ (letter_answer r cell).letter
+      → let letter = letter_of r.amounts (cell - 1) in
+      (letter_answer r cell ≡ Ok letter) × (get_or (page_of r) ((cell - 1) * row_bytes + 3) 0 ≡ byte letter)
   unfolding row_of row letter_columns plain columns letter_answer letter_number first_holding
   page_letter right =
-      let at = (cell - 1) * row_bytes in
-      sym (get_or-drop at (page_of r) 3 0)
-      ∙ sym (get_or-take row_bytes (drop at (page_of r)) 3 0 (lit< tt))
-      ∙ ap (λ (t : List ℕ). get_or t 3 0) page_row
-      ∙ rw (right, exists)
+      let at = (cell - 1) * row_bytes in (
+        rw (right, exists),
+        sym (get_or-drop at (page_of r) 3 0)
+        ∙ sym (get_or-take row_bytes (drop at (page_of r)) 3 0 (lit< tt))
+        ∙ ap (λ (t : List ℕ). get_or t 3 0) page_row,
+      )
 
 -- The levels of a river that check 4 passes are in bounds, and what the writer asks of a cell holds.
 module _ (r : River) (right : river_wrong r ≡ false) (c : ℕ) (inside : c < r.cells) where

@@ -5,7 +5,7 @@ use Rattle.stoichiometry.specs.Substances.{Substance, organic, ss, nh4, no2, no3
 use Rattle.stoichiometry.specs.Levels.{level_of}
 use Rattle.stoichiometry.specs.Totals.{amount_at}
 use Rattle.river.specs.declared.River.{River}
-use Rattle.river.specs.Cells.{letter_of}
+use Rattle.river.specs.Cells.{byte, letter_of}
 use Rattle.text.specs.Blocks.{blocks}
 use Rattle.text.specs.Decimals.{plain}
 
@@ -47,7 +47,7 @@ levels_at amounts c = map (λ s. level_of s (amount_at amounts c (place s))) sho
 
 -- The row of a cell, counted from 0; what stands on it is counted from 1.
 unfoldable pub row_of : List ℤ → ℕ → List ℕ
-row_of amounts c = row (c + 1) (letter_of amounts c) (levels_at amounts c)
+row_of amounts c = row (c + 1) (byte (letter_of amounts c)) (levels_at amounts c)
 
 -- The page of a river: the rows of its cells in order.
 unfoldable pub page_of : River → List ℕ

@@ -6,7 +6,7 @@ ghost use Rattle.stoichiometry.specs.Refusals.{answer_of, number_of};
 ghost use Rattle.page.specs.Writing.{page_number, page_after};
 
 use crate::writing::write_rows;
-use river::{River, river_fits};
+use river::River;
 use stoichiometry::Refusal;
 
 mod writing;
@@ -37,7 +37,7 @@ pub fn write_page(river: River, output: &mut [u8]) -> Result<(), Refusal>
     ensures answer { result ≡ answer_of (page_number river (length output.old)) tt }
     ensures output { output.new ≡ page_after (number_of result) river output.old }
 {
-    if !river_fits(river.cells, &river.amounts, &river.carries) {
+    if !river.fits() {
         return Err(Refusal::River);
     }
     let n = river.cells as usize;

@@ -139,7 +139,13 @@ fn write_cell(out: &mut [u8], c: usize, amounts: &[i64; AMOUNTS])
 {
     let levels = levels_of(amounts, c);
     let letter = letter_by(levels[OXYGEN] as u64, levels[AMMONIUM] as u64);
-    write_row(out, c * Page::ROW_BYTES, (c + 1) as u8, letter, &levels);
+    write_row(
+        out,
+        c * Page::ROW_BYTES,
+        (c + 1) as u8,
+        letter.byte(),
+        &levels,
+    );
 }
 
 // The rows of the first n cells.

@@ -6,7 +6,7 @@ ghost use Rattle.stoichiometry.specs.Refusals.{answer_of, number_of};
 ghost use Rattle.record.specs.Writing.{write_number, output_after, work_after};
 
 use crate::writing::write_cells;
-use river::{River, river_fits};
+use river::River;
 use stoichiometry::{PROCESSES, Refusal, SUBSTANCES};
 use text::copy_bytes;
 
@@ -39,7 +39,7 @@ pub fn write_record(river: River, output: &mut [u8], work: &mut [u8]) -> Result<
     ensures output { output.new ≡ output_after (number_of result) river output.old }
     ensures work { work.new ≡ work_after (number_of result) river work.old }
 {
-    if !river_fits(river.cells, &river.amounts, &river.carries) {
+    if !river.fits() {
         return Err(Refusal::River);
     }
     let n = river.cells as usize;

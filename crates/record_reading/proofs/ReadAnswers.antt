@@ -8,10 +8,13 @@ use native.Mathlib.Omega.{arith}
 use borrow.Author.Tests.{ne_eqb, eqb-true, not-true}
 use lib.Dec.{eqb}
 use lib.ListN.{length}
+use Rattle.std.specs.Prelude.{Ok, Err}
+use Rattle.stoichiometry.specs.declared.refusals.Refusal.{Refusal}
+use Rattle.stoichiometry.specs.declared.refusals.Refusal.TheVariants.{Text}
 use Rattle.numeric.specs.Check.{in_range, first_holding}
 use Rattle.numeric.proofs.CheckLaws.{and_left, and_right, leb-within}
-use Rattle.river.specs.declared.Changed.{Changed}
-use Rattle.river.specs.Rivers.{most_cells, cells_fit, river_wrong, zero_river}
+use Rattle.river.specs.declared.River.{River}
+use Rattle.river.specs.Rivers.{most_cells, cells_fit, river_wrong}
 use Rattle.text.specs.Blocks.{part}
 use Rattle.record.specs.Lines.{cell_bytes}
 use Rattle.record_reading.specs.Reading.{cells_in, lines_right, river_in, is_record}
@@ -41,27 +44,40 @@ module _ (t : List ℕ) where
       (and_left size_right lines both, and_right size_right lines both, right)
 
   -- A record is answered with its river, every other text with 11.
-  pub answer-accepted : is_record t ≡ true → read_answer t ≡ record { number = 0; river = river_in t }
+  pub answer-accepted : is_record t ≡ true → read_answer t ≡ Ok (river_in t)
   unfolding read_answer first_holding
   answer-accepted e = rw e refl
 
-  pub read_refused : is_record t ≡ false → read_answer t ≡ record { number = 11; river = zero_river 0 }
+  pub read_refused : is_record t ≡ false → read_answer t ≡ Err Text
   unfolding read_answer first_holding
   read_refused e = rw e refl
 
-  -- What the number says.
-  number_says : (b : Bool) → is_record t ≡ b
-      → ((read_answer t).number ≡ 0 → is_record t ≡ true) × (((read_answer t).number ≡ 0 → ⊥) → is_record t ≡ false)
-  number_says true e = (λ z. e, λ h. absurd (h (ap (λ (a : Changed). a.number) (answer-accepted e))))
-  number_says false e =
-      let eleven : (read_answer t).number ≡ 11 = ap (λ (a : Changed). a.number) (read_refused e) in
-      (λ z. absurd (omega arith), λ h. e)
+  -- What the answer says.
+  answer_says : (b : Bool) → is_record t ≡ b
+      → ((r : River) → read_answer t ≡ Ok r → (is_record t ≡ true) × (river_in t ≡ r))
+      × ((refusal : Refusal) → read_answer t ≡ Err refusal → (is_record t ≡ false) × (refusal ≡ Text))
+  answer_says true e =
+      (λ r a. (e, same_river (answer-accepted e) a), λ refusal a. absurd (other (answer-accepted e) a))
+    where
+      same_river : {r : River} → read_answer t ≡ Ok (river_in t) → read_answer t ≡ Ok r → river_in t ≡ r
+      same_river x y = cc
 
-  pub read-record : (read_answer t).number ≡ 0 → is_record t ≡ true
-  read-record = (number_says (is_record t) refl).0
+      other : {r : River} {refusal : Refusal} → read_answer t ≡ Ok r → read_answer t ≡ Err refusal → ⊥
+      other x y = cc
+  answer_says false e =
+      (λ r a. absurd (other (read_refused e) a), λ refusal a. (e, same_refusal (read_refused e) a))
+    where
+      other : {r : River} {refusal : Refusal} → read_answer t ≡ Err refusal → read_answer t ≡ Ok r → ⊥
+      other x y = cc
 
-  pub number_refused : ((read_answer t).number ≡ 0 → ⊥) → is_record t ≡ false
-  number_refused = (number_says (is_record t) refl).1
+      same_refusal : {refusal : Refusal} → read_answer t ≡ Err Text → read_answer t ≡ Err refusal → refusal ≡ Text
+      same_refusal x y = cc
+
+  pub read-record : (r : River) → read_answer t ≡ Ok r → (is_record t ≡ true) × (river_in t ≡ r)
+  read-record = (answer_says (is_record t) refl).0
+
+  pub answer_refused : (refusal : Refusal) → read_answer t ≡ Err refusal → (is_record t ≡ false) × (refusal ≡ Text)
+  answer_refused = (answer_says (is_record t) refl).1
 
   module _ (cell : ℕ) where
     -- 11 before 5, then the cell.

@@ -12,6 +12,7 @@ use lib.Dec.{lit<}
 use lib.IntN.{ℤ, pos, negsuc, nat_abs}
 use lib.ListN.{length}
 use lib.Signed.{le_z}
+use Rattle.std.specs.Prelude.{Ok}
 use Rattle.numeric.specs.Check.{in_range}
 use Rattle.numeric.proofs.Bounds.{abs_le, abs_ge}
 use Rattle.numeric.proofs.CheckLaws.{every_at, every_all}
@@ -19,7 +20,6 @@ use Rattle.numeric.proofs.Comparison.{le_le_z}
 use Rattle.numeric.proofs.GridLaws.{grid_at_lem, grid_eq, grid_of_list}
 use Rattle.stoichiometry.specs.Substances.{substances, most_net}
 use Rattle.stoichiometry.specs.Rows.{processes}
-use Rattle.river.specs.declared.Changed.{Changed}
 use Rattle.river.specs.declared.River.{River}
 use Rattle.stoichiometry.specs.Totals.{amount_at}
 use Rattle.river.specs.Rivers.{most_cells, carry_at, cells_fit, river_wrong, most_carry}
@@ -117,9 +117,9 @@ module _ (r : River) (right : river_wrong r ≡ false) (amounts : length r.amoun
       rw (cells, eq-eqb (cells_in t * cell_bytes) (length t) size, all, bounds)
 
   -- What is written of a river reads back to that river, carries and all.
-  pub read_write : read_answer (record_of r) ≡ record { number = 0; river = r }
+  pub read_write : read_answer (record_of r) ≡ Ok r
   read_write =
-      answer-accepted (record_of r) record-accepted ∙ ap (λ (x : River). record { number = 0; river = x }) river_back
+      answer-accepted (record_of r) record-accepted ∙ ap Ok river_back
 
   -- The lines of one of its cells, as they are handed out.
   pub lines_written : (cell : ℕ) → 1 ≤ cell → cell ≤ r.cells
@@ -180,12 +180,9 @@ module _ (t : List ℕ) (right : is_record t ≡ true) where
       (line-right c k h l).0 ∙ ap (line (c + 1) (k + 1)) (sym (value_read c k h l (dec_lt k substances))))
 
 -- A text that is read is what is written of the river read.
-pub read-accepted : (t : List ℕ) → (read_answer t).number ≡ 0 → t ≡ record_of (read_answer t).river
-read-accepted t e =
-    let right = read-record t e in
-    write_read t right ∙ ap (λ (a : Changed). record_of a.river) (sym (answer-accepted t right))
+pub read-accepted : (t : List ℕ) (r : River) → read_answer t ≡ Ok r → t ≡ record_of r
+read-accepted t r e = let read = read-record t r e in write_read t read.0 ∙ ap record_of read.1
 
 -- Two texts that read to one river are the same.
-pub read_unique : (t u : List ℕ) → (read_answer t).number ≡ 0 → (read_answer u).number ≡ 0
-    → (read_answer t).river ≡ (read_answer u).river → t ≡ u
-read_unique t u e f same = read-accepted t e ∙ ap record_of same ∙ sym (read-accepted u f)
+pub read_unique : (t u : List ℕ) (r : River) → read_answer t ≡ Ok r → read_answer u ≡ Ok r → t ≡ u
+read_unique t u r e f = read-accepted t r e ∙ sym (read-accepted u r f)

@@ -1,14 +1,15 @@
 -- Reading a record (scope, "Probe frame, letter, record", check 11): a text is a record exactly when each of its
 -- lines is the line of a value within limits, and check 4 does not hold of the river that has these values. Laws,
 -- that what is written is read back and that nothing else is read: proofs/RecordLaws.antt. No assumptions.
-use Rattle.std.specs.Prelude.{ℕ, ◌+◌, ◌-◌, ◌*◌, ◌/◌, Bool, true, false, not, ◌&&◌, cond, List, [], ◌∷◌, ltb, eqb, length, ℤ, pos, neg_ℤ, nat_abs, Option, Some, None, is_some, unwrap_or, option_and_then}
+use Rattle.std.specs.Prelude.{ℕ, ◌+◌, ◌-◌, ◌*◌, ◌/◌, Bool, true, false, not, ◌&&◌, cond, List, [], ◌∷◌, ltb, eqb, length, ℤ, pos, neg_ℤ, nat_abs, Option, Some, None, is_some, unwrap_or, option_and_then, Result}
 use Rattle.numeric.specs.Check.{in_range, every, first_holding, ◌when◌}
 use Rattle.numeric.specs.Table.{grid}
+use Rattle.stoichiometry.specs.declared.refusals.Refusal.{Refusal}
+use Rattle.stoichiometry.specs.Refusals.{answer_of}
 use Rattle.stoichiometry.specs.Substances.{substances, most_net}
 use Rattle.stoichiometry.specs.Rows.{processes}
-use Rattle.river.specs.declared.Changed.{Changed}
 use Rattle.river.specs.declared.River.{River}
-use Rattle.river.specs.Rivers.{most_cells, cells_fit, river_wrong, zero_river, most_carry}
+use Rattle.river.specs.Rivers.{most_cells, cells_fit, river_wrong, most_carry}
 use Rattle.text.specs.Blocks.{part}
 use Rattle.text_reading.specs.Reading.{parse}
 use Rattle.record.specs.Lines.{lines, line_bytes, cell_bytes, line}
@@ -69,11 +70,9 @@ is_record t =
     cells_fit (cells_in t) && eqb (cells_in t * cell_bytes) (length t)
     && lines_right (cells_in t) t && not (river_wrong (river_in t))
 
--- The river of a record; 11 and a river of 0 cells for every other text.
-unfoldable pub read_answer : List ℕ → Changed
-read_answer t =
-    let number = first_holding (11 when not (is_record t) ∷ []) in
-    cond (eqb number 0) (record { number = 0; river = river_in t }) (record { number = number; river = zero_river 0 })
+-- The river of a record; 11 for every other text.
+unfoldable pub read_answer : List ℕ → Result River Refusal
+read_answer t = answer_of (first_holding (11 when not (is_record t) ∷ [])) (river_in t)
 
 -- The lines of one cell, counted from 1: the number, 11 before 5, and that part of the text, empty on refusal.
 unfoldable pub cell_number : List ℕ → ℕ → ℕ

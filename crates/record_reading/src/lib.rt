@@ -4,40 +4,34 @@
 ghost use Rattle.std.specs.Prelude.{◌≡◌};
 ghost use Rattle.record_reading.specs.Reading.{read_answer, cell_number, cell_lines};
 
-use crate::reading::{no_record, read_cells, size_fits};
+use crate::reading::{read_cells, size_fits};
 use numeric::in_range;
 use record::Record;
-use river::{AMOUNTS, CARRIES, Changed, River, river_fits};
-use stoichiometry::refusal;
+use river::{AMOUNTS, CARRIES, River};
+use stoichiometry::{Refusal, refusal};
 
 mod reading;
 
-// The river of a record, with zeros beyond its last cell; 11 and a river of no cells for every other text.
-pub fn read_record(text: &[u8]) -> Changed
+// The river of a record, with zeros beyond its last cell. Refuses every other text with 11.
+pub fn read_record(text: &[u8]) -> Result<River, Refusal>
     ensures answer { result ≡ read_answer text.now }
 {
     if !size_fits(text.len()) {
-        return no_record();
+        return Err(Refusal::Text);
     }
     let n = text.len() / Record::CELL_BYTES;
-    let mut amounts = [0; AMOUNTS];
-    let mut carries = [0; CARRIES];
-    let Some(()) = read_cells(text, n, &mut amounts, &mut carries) else {
-        return no_record();
+    let mut river = River {
+        cells: n as u32,
+        amounts: [0; AMOUNTS],
+        carries: [0; CARRIES],
     };
-    let cells = n as u32;
-    if !river_fits(cells, &amounts, &carries) {
-        return no_record();
-    }
-    let river = River {
-        cells,
-        amounts,
-        carries,
+    let Some(()) = read_cells(text, n, &mut river.amounts, &mut river.carries) else {
+        return Err(Refusal::Text);
     };
-    Changed {
-        number: refusal::NONE,
-        river,
+    if !river.fits() {
+        return Err(Refusal::Text);
     }
+    Ok(river)
 }
 
 // The number that goes with `lines_of_cell`: 11, then 5, or 0. Cells are counted from 1. The scope asks for the part of
@@ -45,14 +39,16 @@ pub fn read_record(text: &[u8]) -> Changed
 pub fn number_of_cell(text: &[u8], cell: u32) -> u32
     ensures answer { result ≡ cell_number text.now cell }
 {
-    let read = read_record(text);
-    if read.number != refusal::NONE {
-        return refusal::TEXT;
+    match read_record(text) {
+        Err(refusal) => refusal.number(),
+        Ok(river) => {
+            if in_range(1, river.cells, cell) {
+                refusal::NONE
+            } else {
+                refusal::PLACE
+            }
+        }
     }
-    if !in_range(1, read.river.cells, cell) {
-        return refusal::PLACE;
-    }
-    refusal::NONE
 }
 
 // The lines of one cell, as that part of the lent text; empty where `number_of_cell` gives a number.

@@ -11,7 +11,7 @@ ghost use Rattle.record_reading.specs.Inner.Stages.{amounts_stored, carries_stor
 
 use numeric::both;
 use record::Record;
-use river::{AMOUNTS, CARRIES, Changed, River};
+use river::{AMOUNTS, CARRIES, River};
 use stoichiometry::{PROCESSES, SUBSTANCES, refusal};
 use text::two_columns;
 use text_reading::read_decimal;
@@ -128,17 +128,4 @@ pub(crate) fn size_fits(bytes: usize) -> bool
         both(1 <= n, n <= River::CELLS_MOST),
         n * Record::CELL_BYTES == bytes,
     )
-}
-
-pub(crate) fn no_record() -> Changed
-    ensures { result ≡ record { number = 11; river = zero_river 0 } }
-{
-    Changed {
-        number: refusal::TEXT,
-        river: River {
-            cells: 0,
-            amounts: [0; AMOUNTS],
-            carries: [0; CARRIES],
-        },
-    }
 }

@@ -22,9 +22,10 @@ use Rattle.stoichiometry.specs.Levels.{level_of}
 use Rattle.stoichiometry.specs.Parameters.{adds_up, fractions_wrong, figures_wrong, yields_fit, constants_fit}
 use Rattle.stoichiometry.specs.Parameters.{published_set}
 use Rattle.stoichiometry.specs.Rows.{Process, entry, oxygen_change, row, processes_of, process_at, row_entry, rows_of}
+use Rattle.stoichiometry.specs.Refusals.{number_of}
 use Rattle.stoichiometry.specs.Sets.{Accepted, rows_wrong, set_number, published_answer}
 use Rattle.stoichiometry.proofs.Balance as Balance
-use Rattle.stoichiometry.specs.declared.refusals.Refusal.TheVariants.{Figures}
+use Rattle.stoichiometry.specs.declared.refusals.Refusal.TheVariants.{Figures, Text}
 use Rattle.std.specs.Prelude.{Ok, Err}
 use Rattle.stoichiometry.proofs.PublishedSet as Published
 use Rattle.rows.specs.Answers.{rows_answer}
@@ -34,7 +35,7 @@ use Rattle.kinetics.specs.Rates.{takes_phosphate, takes_nitrogen, rates_of, rate
 use Rattle.river.specs.declared.River.{River}
 use Rattle.river.specs.Rivers.{most_cells, lowest_at, highest_at, amount_fits, amounts_fit, carries_fit, cells_fit, river_wrong}
 use Rattle.river.specs.Rivers.{zero_river, fresh_answer, cell_exists}
-use Rattle.river.specs.Cells.{letter_answer}
+use Rattle.river.specs.Cells.{byte, letter_of, letter_answer}
 use Rattle.river.proofs.FreshLaws.{fresh_cells}
 use Rattle.transport.specs.Load.{load_number, load_answer}
 use Rattle.transport.specs.Flow.{passing, left_of, moved_of, flow_number, flow_answer}
@@ -60,15 +61,15 @@ use Rattle.results.specs.Starred.{starred}
 -- Demand 3: a fresh river of 1 to 8 cells is answered, and after every list of loads, flows, air exchanges and steps on
 -- it under an accepted set, the river is in its bounds, and each total that cells i to j hold is what their book says.
 pub demand_3 : (set : Set) → Accepted set → (n : ℕ) → 1 ≤ n → n ≤ most_cells → (calls : List Call)
-    → let fresh = fresh_answer n in
-    let r = after set calls fresh.river in
-    (fresh.number ≡ 0) × (river_wrong r ≡ false) × (r.cells ≡ n)
+    → let fresh = zero_river n in
+    let r = after set calls fresh in
+    (fresh_answer n ≡ Ok fresh) × (river_wrong r ≡ false) × (r.cells ≡ n)
     × ((i j : ℕ) → 1 ≤ i → i ≤ j → j ≤ n → (t : Total)
-    → held set t r.amounts i j ≡ book set t i j (answered set calls fresh.river))
+    → held set t r.amounts i j ≡ book set t i j (answered set calls fresh))
 demand_3 = calls_balance
 
 -- No other number of cells is answered.
-pub fresh_1_to_8 : (n : ℕ) → (fresh_answer n).number ≡ 0 → (1 ≤ n) × (n ≤ most_cells)
+pub fresh_1_to_8 : (n : ℕ) → number_of (fresh_answer n) ≡ 0 → (1 ≤ n) × (n ≤ most_cells)
 fresh_1_to_8 = fresh_cells
 
 -- The published set is accepted for all constants in their ranges; the call refuses with 2 or answers an accepted set.
@@ -82,17 +83,16 @@ pub published_answer_lem : (k : RateConstants) (h : HalfSaturations)
 published_answer_lem = Published.published_answer_lem
 
 -- A text is read as a river exactly when it is, byte for byte, the record of that river, which is in its bounds.
-pub record-read : (t : List ℕ) (r : River) → (read_answer t ≡ record { number = 0; river = r }) ↔ IsRecordOf t r
+pub record-read : (t : List ℕ) (r : River) → (read_answer t ≡ Ok r) ↔ IsRecordOf t r
 record-read = read-is_record
 
 -- So two texts that read to one river are one text.
-pub record_unique : (t u : List ℕ) → (read_answer t).number ≡ 0 → (read_answer u).number ≡ 0
-    → (read_answer t).river ≡ (read_answer u).river → t ≡ u
+pub record_unique : (t u : List ℕ) (r : River) → read_answer t ≡ Ok r → read_answer u ≡ Ok r → t ≡ u
 record_unique = read_unique
 
 -- Every other text is refused with 11.
 pub record_refused : (t : List ℕ) → ((r : River) → IsRecordOf t r → ⊥)
-    → read_answer t ≡ record { number = 11; river = zero_river 0 }
+    → read_answer t ≡ Err Text
 record_refused = read_else_refused
 
 -- A page has 65 bytes a cell. The row of a cell, counted from 1, begins at 65 × (cell − 1) and is 64 characters and a
@@ -107,7 +107,8 @@ page_rows r cell exists = (Page.page_row r cell exists, Page.row_of-is r.amounts
 
 -- The letter of a row is the one that `letter_of` answers.
 pub page_letter : (r : River) (cell : ℕ) → cell_exists r cell ≡ true → river_wrong r ≡ false
-    → get_or (page_of r) ((cell - 1) * row_bytes + 3) 0 ≡ (letter_answer r cell).letter
+    → let letter = letter_of r.amounts (cell - 1) in
+    (letter_answer r cell ≡ Ok letter) × (get_or (page_of r) ((cell - 1) * row_bytes + 3) 0 ≡ byte letter)
 page_letter = Page.page_letter
 
 -- Each level of a river that check 4 passes takes at most 8 of its 10 columns: the first two are blank (32). It shows

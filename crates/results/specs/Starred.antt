@@ -2,7 +2,7 @@
 -- it, beside the one that is stated. A Monod factor alone is no call's answer: there stands its definition. That all of
 -- it holds: proofs/Results.antt. No assumptions.
 use Rattle.std.specs.Prelude.{ℕ, ◌+◌, ◌-◌, ◌*◌, false, List, [], ◌∷◌, Float, ℤ, pos, neg_ℤ, get_or}
-use Rattle.std.specs.Prelude.{Result, None}
+use Rattle.std.specs.Prelude.{Result, Ok, Err, None}
 use Rattle.std.specs.Result.{result_unwrap_or}
 use Rattle.std.specs.Float.{binary32}
 use Rattle.std.specs.Float.Ieee.{round}
@@ -15,17 +15,16 @@ use Rattle.stoichiometry.specs.Substances.{organic, ss, xh, xs, nh4, no3, hpo4, 
 use Rattle.stoichiometry.specs.Substances.{substances, Substance, grains_per_microgram_n, grains_per_microgram_p}
 use Rattle.stoichiometry.specs.Parameters.{all_half_saturations, fractions}
 use Rattle.stoichiometry.specs.Parameters.{published_fractions, published_yields, published_inert}
-use Rattle.stoichiometry.specs.Sets.{set_number, zero_set, published_answer}
-use Rattle.stoichiometry.specs.Refusals.{number_of}
 use Rattle.stoichiometry.specs.declared.refusals.Refusal.{Refusal}
+use Rattle.stoichiometry.specs.Refusals.{number_of}
+use Rattle.stoichiometry.specs.Sets.{set_number, zero_set, published_answer}
 use Rattle.rows.specs.declared.Rows.{Rows}
 use Rattle.rows.specs.Answers.{rows_answer}
 use Rattle.kinetics.specs.declared.Conditions.{Conditions}
 use Rattle.kinetics.specs.Factors.{monod}
-use Rattle.river.specs.declared.Changed.{Changed}
 use Rattle.river.specs.declared.River.{River}
 use Rattle.stoichiometry.specs.Totals.{amount_at}
-use Rattle.river.specs.Rivers.{fresh_answer, carry_at}
+use Rattle.river.specs.Rivers.{zero_river, fresh_answer, carry_at}
 use Rattle.transport.specs.declared.Aired.{Aired}
 use Rattle.transport.specs.declared.Flowed.{Flowed}
 use Rattle.transport.specs.Load.{load_answer}
@@ -83,39 +82,58 @@ conditions_for seconds =
     record { seconds = seconds; light = one; temperatures = record { xh = one; xn1 = one; xn2 = one; algae = one; hydrolysis = one } }
 
 -- The rows of the published set, and the entry of a substance in the row of process p, counted from 1.
-abbrev rows : Rows
+abbrev rows : Result Rows Refusal
 rows = rows_answer published
 
-abbrev entry_of : ℕ → Substance → ℤ
-entry_of p s = get_or rows.entries ((p - 1) * substances + place s) (pos 0)
+abbrev entries_of : Result Rows Refusal → List ℤ
+entries_of (Ok all) = all.entries
+entries_of (Err refusal) = []
 
--- A river of one cell, all zeros, and one with a number of a substance loaded; what it has of a substance.
+abbrev entry_of : ℕ → Substance → ℤ
+entry_of p s = get_or (entries_of rows) ((p - 1) * substances + place s) (pos 0)
+
+-- A river of one cell, all zeros, and one with a number of a substance loaded; what it has of a substance. No call here
+-- is refused but those whose number is stated.
 abbrev fresh : River
-fresh = (fresh_answer 1).river
+fresh = result_unwrap_or (fresh_answer 1) (zero_river 0)
 
 abbrev loaded : River → Substance → ℤ → River
-loaded r s number = (load_answer r 1 (place s + 1) number).river
+loaded r s number = result_unwrap_or (load_answer r 1 (place s + 1) number) r
 
 abbrev amount_in : River → Substance → ℤ
 amount_in r s = amount_at r.amounts 0 (place s)
 
 -- XS 1,000,000 alone; what a step of so many seconds answers for it, and a second one of 3,600 s.
-abbrev once : ℕ → Changed
+abbrev once : ℕ → Result River Refusal
 once seconds = step_answer published (loaded fresh (organic xs) (pos 1000000)) (conditions_for seconds)
 
-abbrev again : Changed
-again = step_answer published (once 3600).river (conditions_for 3600)
+abbrev after_once : River
+after_once = result_unwrap_or (once 3600) fresh
+
+abbrev again : Result River Refusal
+again = step_answer published after_once (conditions_for 3600)
+
+abbrev after_again : River
+after_again = result_unwrap_or again fresh
 
 -- A flow of 5,000 with 10,001 of NH4 and −3 of H+, and what leaves of a substance.
-abbrev flowed : Flowed
+abbrev flowed : Result Flowed Refusal
 flowed = flow_answer (loaded (loaded fresh nh4 (pos 10001)) h_plus (neg_ℤ (pos 3))) 5000
 
+abbrev left_by : Result Flowed Refusal → List ℤ
+left_by (Ok f) = f.left
+left_by (Err refusal) = []
+
 abbrev passes : Substance → ℤ
-passes s = amount_at flowed.left 0 (place s)
+passes s = amount_at (left_by flowed) 0 (place s)
 
 -- Air on a river without O2.
-abbrev aired : Aired
+abbrev aired : Result Aired Refusal
 aired = air_answer fresh 1 2000 3600 10000000
+
+abbrev brought : Result Aired Refusal → ℤ
+brought (Ok a) = a.amount
+brought (Err refusal) = pos 0
 
 -- The f32 nearest numerator / denominator.
 abbrev nearest : ℕ → ℕ → Float
@@ -142,7 +160,7 @@ read =
 
 unfoldable pub starred : List Case
 starred =
-    pos rows.number gives pos 0
+    pos (number_of rows) gives pos 0
     ∷ entry_of 1 (organic xh) gives pos 60
     ∷ entry_of 1 (organic ss) gives neg_ℤ (pos 100)
     ∷ entry_of 1 nh4 gives neg_ℤ (pos 26784000)
@@ -155,16 +173,16 @@ starred =
     ∷ entry_of 6 n2 gives pos 482794800
     ∷ entry_of 6 h_plus gives neg_ℤ (pos 127197600)
     ∷ pos (monod 100 200) gives pos 333333
-    ∷ pos (once 3600).number gives pos 0
-    ∷ amount_in (once 3600).river (organic xs) gives pos 875000
-    ∷ pos again.number gives pos 0
-    ∷ amount_in again.river (organic xs) gives pos 765700
-    ∷ pos (carry_at again.river.carries 0 14) gives pos 750000
-    ∷ pos flowed.number gives pos 0
+    ∷ pos (number_of (once 3600)) gives pos 0
+    ∷ amount_in after_once (organic xs) gives pos 875000
+    ∷ pos (number_of again) gives pos 0
+    ∷ amount_in after_again (organic xs) gives pos 765700
+    ∷ pos (carry_at after_again.carries 0 14) gives pos 750000
+    ∷ pos (number_of flowed) gives pos 0
     ∷ passes nh4 gives pos 5000
     ∷ passes h_plus gives neg_ℤ (pos 1)
-    ∷ pos aired.number gives pos 0
-    ∷ aired.amount gives pos 8137496745000
+    ∷ pos (number_of aired) gives pos 0
+    ∷ brought aired gives pos 8137496745000
     ∷ pos (number_of read_answer) gives pos 0
     ∷ read.ammonium gives pos (699999 * grains_per_microgram_n)
     ∷ read.nitrite gives pos (500000 * grains_per_microgram_n)
@@ -172,5 +190,5 @@ starred =
     ∷ read.phosphate gives pos (500000 * grains_per_microgram_p)
     ∷ pos (set_number (with_ss (fractions 0 0 1000 0 0))) gives pos 3
     ∷ pos (set_number (with_ss (fractions 569 80 280 60 10))) gives pos 1
-    ∷ pos (once 3601).number gives pos 6
+    ∷ pos (number_of (once 3601)) gives pos 6
     ∷ []

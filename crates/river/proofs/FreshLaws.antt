@@ -1,14 +1,17 @@
 -- What `River::fresh` answers (specs/Rivers.antt): a river of zeros for 1 to 8 cells, and for no other number; and that
 -- check 4 does not hold of such a river. No assumptions.
 use Prim.Native.Nat.{ℕ, ◌≤◌, ◌+◌, ◌*◌, ◌%◌}
-use mathlib.Core.Bool.{false, not}
+use mathlib.Core.Bool.{Bool, true, false, not}
 use mathlib.Core.List.{[]}
-use mathlib.Core.Path.{◌≡◌}
+use mathlib.Core.Path.{◌≡◌, refl, sym, ap, ◌∙◌}
 use native.Mathlib.Omega.{arith}
 use borrow.Author.Tests.{not-false, le-leb}
 use lib.Dec.{lit<, lit≤}
 use lib.IntN.{pos}
 use lib.ListN.{get_or}
+use Rattle.std.specs.Prelude.{Ok, Err}
+use Rattle.stoichiometry.specs.Refusals.{number_of}
+use Rattle.stoichiometry.specs.declared.refusals.Refusal.TheVariants.{River as RiverWrong}
 use Rattle.numeric.specs.Check.{first_holding}
 use Rattle.numeric.proofs.CheckLaws.{leb-within, first_zero}
 use Rattle.numeric.proofs.Filling.{replicate_at}
@@ -18,13 +21,21 @@ use Rattle.river.specs.Rivers.{most_cells, cells_fit, river_wrong, zero_river, f
 use Rattle.river.proofs.Bounds.{zero_fits}
 use Rattle.river.proofs.Rivers.{amounts_from, carries_from, river_fits_lem}
 
-pub fresh-accepted : (n : ℕ) → 1 ≤ n → n ≤ most_cells → fresh_answer n ≡ record { number = 0; river = zero_river n }
+pub fresh-accepted : (n : ℕ) → 1 ≤ n → n ≤ most_cells → fresh_answer n ≡ Ok (zero_river n)
 unfolding fresh_answer first_holding cells_fit
 fresh-accepted n l h = rw (le-leb 1 n l, le-leb n most_cells h)
 
-pub fresh_cells : (n : ℕ) → (fresh_answer n).number ≡ 0 → (1 ≤ n) × (n ≤ most_cells)
-unfolding fresh_answer cells_fit
-fresh_cells n e = leb-within 1 n most_cells (not-false (cells_fit n) (first_zero 4 (not (cells_fit n)) [] (lit< tt) e))
+pub fresh_refused : (n : ℕ) → cells_fit n ≡ false → fresh_answer n ≡ Err RiverWrong
+unfolding fresh_answer first_holding
+fresh_refused n f = rw f
+
+pub fresh_cells : (n : ℕ) → number_of (fresh_answer n) ≡ 0 → (1 ≤ n) × (n ≤ most_cells)
+unfolding cells_fit
+fresh_cells n e = leb-within 1 n most_cells (go (cells_fit n) refl)
+  where
+    go : (b : Bool) → cells_fit n ≡ b → cells_fit n ≡ true
+    go true f = f
+    go false f = absurd (omega (arith, sym (ap number_of (fresh_refused n f)) ∙ e))
 
 pub zero_right : (n : ℕ) → 1 ≤ n → n ≤ most_cells → river_wrong (zero_river n) ≡ false
 zero_right n l h =

@@ -12,6 +12,8 @@ use lib.Dec.{leb, eqb, lit<, lit≤}
 use lib.IntN.{ℤ, pos, nat_abs}
 use lib.ListN.{get_or}
 use mir.Facts.{to_z-of_z}
+use mir.Syntax.{w64}
+use mir.Val.{SFits}
 use Rattle.numeric.specs.Check.{every}
 use Rattle.numeric.proofs.Bounds.{abs_zero, fits_abs}
 use Rattle.numeric.proofs.CheckLaws.{and_left, and_right, leb-within, every_eq, every-rows}
@@ -189,6 +191,15 @@ module _ (r : River) (right : river_wrong r ≡ false) where
         small = size;
         same = to_z-of_z (fits_abs _ (omega arith));
       }
+
+-- The same of a river and a cell that passed their tests.
+pub tested_known : (r : River) (cell s : ℕ) → true ≡ river_fits r.cells r.amounts r.carries → true ≡ cell_exists r cell
+    → s < substances → AmountKnown r cell s
+tested_known r cell s fits exists l = amount_known r (wrong_tested r true fits) cell s (sym exists) l
+
+-- What is in its bounds fits 64 bits.
+pub fits_machine : (s : ℕ) (x : ℤ) → s < substances → amount_fits s x ≡ true → SFits w64 x
+fits_machine s x l e = fits_abs x (omega (arith, fits_bound s x l e))
 
 -- A cell that exists is one of the river's, and a substance that exists one of the 18.
 pub cell_bound : (r : River) (cell : ℕ) → cell_exists r cell ≡ true → (1 ≤ cell) × (cell ≤ r.cells)

@@ -1,13 +1,14 @@
 -- The river (scope, "Units and substances" and "Numbers a caller may get"): the bounds of its amounts and carries,
 -- check 4, and a fresh river. Laws: proofs/. No assumptions.
-use Rattle.std.specs.Prelude.{ℕ, ◌+◌, ◌*◌, ◌/◌, ◌%◌, Bool, not, ◌&&◌, cond, List, [], ◌∷◌, map, leb, ltb, eqb, get_or, replicate, ℤ, pos, neg_ℤ, nat_abs}
+use Rattle.std.specs.Prelude.{ℕ, ◌+◌, ◌*◌, ◌/◌, ◌%◌, Bool, not, ◌&&◌, cond, List, [], ◌∷◌, map, leb, ltb, eqb, get_or, replicate, ℤ, pos, neg_ℤ, nat_abs, Result}
 use Rattle.std.specs.Int.Signed.{le_z}
 use Rattle.numeric.specs.Check.{in_range, every, first_holding, ◌when◌}
+use Rattle.stoichiometry.specs.declared.refusals.Refusal.{Refusal}
+use Rattle.stoichiometry.specs.Refusals.{answer_of}
 use Rattle.stoichiometry.specs.Substances.{Substance, organic, nh4, no2, no3, hpo4, o2, hco3, h_plus, xp, h2o, n2}
 use Rattle.stoichiometry.specs.Substances.{substances, order, most_organic, most_grains, most_net}
 use Rattle.stoichiometry.specs.Rows.{processes}
 use Rattle.river.specs.declared.River.{River}
-use Rattle.river.specs.declared.Changed.{Changed}
 
 -- The most cells of a river.
 abbrev pub most_cells : ℕ
@@ -103,8 +104,6 @@ zero_river n =
       carries = replicate (most_cells * processes) 0;
     }
 
--- A fresh river of n cells; 4 and a river of 0 cells where n is not 1 to 8.
-unfoldable pub fresh_answer : ℕ → Changed
-fresh_answer n =
-    let number = first_holding (4 when not (cells_fit n) ∷ []) in
-    record { number = number; river = zero_river (cond (eqb number 0) n 0) }
+-- A fresh river of n cells; 4 where n is not 1 to 8.
+unfoldable pub fresh_answer : ℕ → Result River Refusal
+fresh_answer n = answer_of (first_holding (4 when not (cells_fit n) ∷ [])) (zero_river n)

@@ -4,7 +4,7 @@ ghost use Rattle.stoichiometry.specs.Substances.{o2, nh4};
 ghost use Rattle.stoichiometry.specs.Levels.{level_of};
 ghost use Rattle.river.specs.Cells.{letter_by};
 
-use crate::letter_by;
+use crate::{Letter, letter_by};
 use stoichiometry::Set;
 
 // The level, µg, of an amount in grains, rounded down; weight: grains in one µg.
@@ -17,7 +17,8 @@ fn level(amount: i64, weight: u64) -> u64
 }
 
 // The letter by the amounts of O2 and NH4, grains.
-pub(crate) fn letter(oxygen: i64, ammonium: i64) -> u8
+#[tactic(auto, unfolding(stoichiometry::specs::Levels::level_of))]
+pub(crate) fn letter(oxygen: i64, ammonium: i64) -> Letter
     requires oxygen_not_negative { pos 0 ≤ℤ oxygen }
     requires ammonium_not_negative { pos 0 ≤ℤ ammonium }
     ensures { result ≡ letter_by (level_of o2 oxygen) (level_of nh4 ammonium) }

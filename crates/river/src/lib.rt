@@ -2,13 +2,13 @@
 #![tactic(auto)]
 
 ghost use Rattle.std.specs.Prelude.{◌≡◌};
-ghost use Rattle.river.specs.Rivers.{amount_fits, amounts_fit, river_fits, zero_river, fresh_answer};
-ghost use Rattle.river.specs.Cells.{letter_by, letter_answer};
+ghost use Rattle.river.specs.Rivers.{amount_fits, amounts_fit, river_fits, fresh_answer};
+ghost use Rattle.river.specs.Cells.{byte, letter_by, letter_answer};
 
 use crate::carries::carries_fit;
 use crate::cells::letter;
 use numeric::in_range;
-use stoichiometry::{PROCESSES, SUBSTANCES, place, refusal};
+use stoichiometry::{PROCESSES, Refusal, SUBSTANCES, place};
 
 mod amounts;
 mod carries;
@@ -44,76 +44,55 @@ impl River {
     // The most whole batches that a process reaches in a cell in one step.
     pub const BATCHES_MOST: i64 = 100000;
 
-    // A river of n cells, all zeros. Refuses with 4 and a river of no cells where n is not 1 to 8.
-    pub fn fresh(n: u32) -> Changed
+    // A river of n cells, all zeros. Refuses with 4 where n is not 1 to 8.
+    #[tactic(auto, unfolding(crate::specs::Rivers::fresh_answer, crate::specs::Rivers::cells_fit, numeric::specs::Check::first_holding))]
+    pub fn fresh(n: u32) -> Result<River, Refusal>
         ensures answer { result ≡ fresh_answer n }
     {
         if in_range(1, River::CELLS_MOST as u32, n) {
-            Changed {
-                number: refusal::NONE,
-                river: zero_river(n),
-            }
+            Ok(River {
+                cells: n,
+                amounts: [0; AMOUNTS],
+                carries: [0; CARRIES],
+            })
         } else {
-            Changed {
-                number: refusal::RIVER,
-                river: zero_river(0),
-            }
+            Err(Refusal::River)
         }
     }
-}
 
-fn zero_river(n: u32) -> River
-    ensures { result ≡ zero_river n }
-{
-    River {
-        cells: n,
-        amounts: [0; AMOUNTS],
-        carries: [0; CARRIES],
+    // Check 4 passes the river: it is of 1 to 8 cells, its amounts and carries are in their bounds, and beyond its last
+    // cell are zeros.
+    #[tactic(auto, unfolding(crate::specs::Rivers::cells_fit))]
+    pub fn fits(&self) -> bool
+        ensures answer { result ≡ river_fits self.now.cells self.now.amounts self.now.carries }
+    {
+        let n = self.cells as usize;
+        in_range(1, River::CELLS_MOST as u32, self.cells)
+            && amounts::amounts_fit(n, &self.amounts)
+            && carries_fit(n, &self.carries)
     }
 }
 
-// The river of a call's answer, or the number of its refusal and the river handed in; where none was handed in, by
-// `River::fresh` and the reading of a record, a river of no cells.
-#[derive(Clone, Copy)]
-pub struct Changed {
-    pub number: u32,
-    pub river: River,
-}
-
-// The letter of one cell, a byte of ASCII; on refusal the number and 0.
-#[derive(Clone, Copy)]
-pub struct Letter {
-    pub number: u32,
-    pub letter: u8,
+// The letter of a cell, by its byte of ASCII.
+#[derive(Clone, Copy, Debug, PartialEq, Eq)]
+pub enum Letter {
+    LowOxygen = b'L' as isize,
+    HighAmmonium = b'N' as isize,
+    Neither = b'-' as isize,
 }
 
 impl Letter {
-    // ASCII: low oxygen, high ammonium, neither.
-    pub const LOW_OXYGEN: u8 = b'L';
-
-    pub const HIGH_AMMONIUM: u8 = b'N';
-
-    pub const NEITHER: u8 = b'-';
-
     // Below the first level O2 is low, above the second NH4 is high, µg.
     pub const OXYGEN_LEAST: u64 = 2000000;
 
     pub const AMMONIUM_MOST: u64 = 1000000;
-}
 
-// Check 4 passes a river of these parts: it is of 1 to 8 cells, its amounts and carries are in their bounds, and beyond
-// its last cell are zeros. Both arrays are lent for one lifetime, so that a caller can lend two fields of one river.
-pub fn river_fits<'a>(cells: u32, amounts: &'a [i64; AMOUNTS], carries: &'a [u32; CARRIES]) -> bool
-    ensures answer { result ≡ river_fits cells amounts.now carries.now }
-{
-    if !in_range(1, River::CELLS_MOST as u32, cells) {
-        return false;
+    // The byte of ASCII.
+    pub fn byte(self) -> u8
+        ensures answer { result ≡ byte self }
+    {
+        self as u8
     }
-    let n = cells as usize;
-    if !amounts::amounts_fit(n, amounts) {
-        return false;
-    }
-    carries_fit(n, carries)
 }
 
 // An amount of the substance at a place, counted from 0, is in its bounds. From place 18 on, where there is none, only
@@ -141,40 +120,33 @@ pub fn amounts_fit(cells: u32, amounts: &[i64; AMOUNTS]) -> bool
 }
 
 // The letter by the levels of O2 and NH4, µg, for a caller that has them.
-pub fn letter_by(oxygen: u64, ammonium: u64) -> u8
+#[tactic(auto, unfolding(crate::specs::Cells::letter_by))]
+pub fn letter_by(oxygen: u64, ammonium: u64) -> Letter
     ensures answer { result ≡ letter_by oxygen ammonium }
 {
     if oxygen < Letter::OXYGEN_LEAST {
-        Letter::LOW_OXYGEN
+        Letter::LowOxygen
     } else if Letter::AMMONIUM_MOST < ammonium {
-        Letter::HIGH_AMMONIUM
+        Letter::HighAmmonium
     } else {
-        Letter::NEITHER
+        Letter::Neither
     }
 }
 
 // The letter of a cell, 1 to the number of cells: L where the level of O2 is below 2,000,000 µg, N where that of NH4 is
 // above 1,000,000 µg, else a hyphen. Refuses with 4 and 5.
-pub fn letter_of(river: River, cell: u32) -> Letter
+#[tactic(auto, unfolding(crate::specs::Cells::letter_answer, crate::specs::Cells::letter_number, crate::specs::Cells::letter_of, crate::specs::Rivers::river_wrong, numeric::specs::Check::first_holding))]
+pub fn letter_of(river: River, cell: u32) -> Result<Letter, Refusal>
     ensures answer { result ≡ letter_answer river cell }
 {
-    if !river_fits(river.cells, &river.amounts, &river.carries) {
-        return Letter {
-            number: refusal::RIVER,
-            letter: 0,
-        };
+    if !river.fits() {
+        return Err(Refusal::River);
     }
-    if in_range(1, river.cells, cell) {
-        let start = (cell - 1) as usize * SUBSTANCES;
-        let oxygen = river.amounts[start + place::O2];
-        let ammonium = river.amounts[start + place::NH4];
-        return Letter {
-            number: refusal::NONE,
-            letter: letter(oxygen, ammonium),
-        };
+    if !in_range(1, river.cells, cell) {
+        return Err(Refusal::Place);
     }
-    Letter {
-        number: refusal::PLACE,
-        letter: 0,
-    }
+    let start = (cell - 1) as usize * SUBSTANCES;
+    let oxygen = river.amounts[start + place::O2];
+    let ammonium = river.amounts[start + place::NH4];
+    Ok(letter(oxygen, ammonium))
 }

@@ -12,19 +12,32 @@ use record::Record;
 use river::River;
 use stoichiometry::{Set, number_of};
 
+// With the amounts of one substance and one carry of a river.
+fn with_river(sum: u64, river: &River, turn: u64) -> u64 {
+    let with_all = with_amounts(sum, &river.amounts, turn);
+    with_carry(with_all, &river.carries, turn)
+}
+
 pub(crate) fn step_turn(set: Set, river: River, sum: u64, turn: u64) -> u64 {
     let answer = step::step_river(set, river, conditions_of(turn));
-    let with_number = with(sum, answer.number as u64);
-    let with_all = with_amounts(with_number, &answer.river.amounts, turn);
-    with_carry(with_all, &answer.river.carries, turn)
+    let with_number = with(sum, number_of(&answer) as u64);
+    match &answer {
+        Ok(after) => with_river(with_number, after, turn),
+        Err(_) => with_number,
+    }
 }
 
 pub(crate) fn flow_turn(river: River, sum: u64, turn: u64) -> u64 {
     let answer = transport::flow_river(river, (turn % 10001) as u32);
-    let with_number = with(sum, answer.number as u64);
-    let with_kept = with_amounts(with_number, &answer.river.amounts, turn);
-    let with_river = with_carry(with_kept, &answer.river.carries, turn);
-    with_amounts(with_river, &answer.left, turn)
+    let with_number = with(sum, number_of(&answer) as u64);
+    match &answer {
+        Ok(flowed) => with_amounts(
+            with_river(with_number, &flowed.river, turn),
+            &flowed.left,
+            turn,
+        ),
+        Err(_) => with_number,
+    }
 }
 
 pub(crate) fn air_turn(river: River, sum: u64, turn: u64) -> u64 {
@@ -35,10 +48,11 @@ pub(crate) fn air_turn(river: River, sum: u64, turn: u64) -> u64 {
         (1 + turn % 3600) as u32,
         (8000000 + turn % 4000000) as u32,
     );
-    let with_number = with(sum, answer.number as u64);
-    let with_added = with_signed(with_number, answer.amount);
-    let with_kept = with_amounts(with_added, &answer.river.amounts, turn);
-    with_carry(with_kept, &answer.river.carries, turn)
+    let with_number = with(sum, number_of(&answer) as u64);
+    match &answer {
+        Ok(aired) => with_river(with_signed(with_number, aired.amount), &aired.river, turn),
+        Err(_) => with_number,
+    }
 }
 
 pub(crate) fn load_turn(river: River, sum: u64, turn: u64) -> u64 {
@@ -48,9 +62,11 @@ pub(crate) fn load_turn(river: River, sum: u64, turn: u64) -> u64 {
         (1 + turn % 18) as u32,
         load_of(turn),
     );
-    let with_number = with(sum, answer.number as u64);
-    let with_kept = with_amounts(with_number, &answer.river.amounts, turn);
-    with_carry(with_kept, &answer.river.carries, turn)
+    let with_number = with(sum, number_of(&answer) as u64);
+    match &answer {
+        Ok(after) => with_river(with_number, after, turn),
+        Err(_) => with_number,
+    }
 }
 
 pub(crate) fn rows_turn(set: Set, sum: u64, turn: u64) -> u64 {
@@ -82,9 +98,11 @@ pub(crate) fn page_turn(river: River, output: &mut [u8; PAGE_BYTES], sum: u64, t
 
 pub(crate) fn read_turn(text: &[u8], sum: u64, turn: u64) -> u64 {
     let answer = record_reading::read_record(text);
-    let with_number = with(sum, answer.number as u64);
-    let with_kept = with_amounts(with_number, &answer.river.amounts, turn);
-    with_carry(with_kept, &answer.river.carries, turn)
+    let with_number = with(sum, number_of(&answer) as u64);
+    match &answer {
+        Ok(after) => with_river(with_number, after, turn),
+        Err(_) => with_number,
+    }
 }
 
 pub(crate) fn frame_turn(readings: &[f32; READINGS], sum: u64, turn: u64) -> u64 {

@@ -4,11 +4,11 @@
 ghost use Rattle.std.specs.Prelude.{◌≡◌};
 ghost use Rattle.step.specs.Steps.{step_answer};
 
-use crate::stepping::{answered, step_cells};
+use crate::stepping::step_cells;
 use kinetics::{Conditions, conditions_wrong};
-use river::{AMOUNTS, CARRIES, Changed, River, amounts_fit, river_fits};
+use river::{AMOUNTS, CARRIES, River, amounts_fit};
 use rows::rows_of;
-use stoichiometry::{Set, refusal};
+use stoichiometry::{Refusal, Set};
 
 mod apply;
 mod cells;
@@ -19,42 +19,33 @@ mod rates;
 mod split;
 mod stepping;
 
-// One step of all cells together. Answers the river after, or the number of the first check that holds (1 to 4, 6, 7,
-// 8) and the river handed in.
-pub fn step_river(set: Set, river: River, conditions: Conditions) -> Changed
+// The river after one step of all cells together. Refuses with the number of the first check that holds: 1 to 4, 6, 7
+// or 8.
+pub fn step_river(set: Set, river: River, conditions: Conditions) -> Result<River, Refusal>
     ensures answer { result ≡ step_answer set river conditions }
 {
-    let rows = rows_of(set);
-    if rows.number != refusal::NONE {
-        return answered(rows.number, river);
-    }
-    if !river_fits(river.cells, &river.amounts, &river.carries) {
-        return answered(refusal::RIVER, river);
+    let rows = rows_of(set)?;
+    if !river.fits() {
+        return Err(Refusal::River);
     }
     if conditions_wrong(conditions) {
-        return answered(refusal::CONDITIONS, river);
+        return Err(Refusal::Conditions);
     }
-    let mut amounts = [0; AMOUNTS];
-    let mut rest = [0; CARRIES];
-    let fit = step_cells(
+    let mut after = River {
+        cells: river.cells,
+        amounts: [0; AMOUNTS],
+        carries: [0; CARRIES],
+    };
+    step_cells(
         set,
         conditions,
         &rows.entries,
         &river,
-        &mut amounts,
-        &mut rest,
-    )
-    .is_ok();
-    if !fit {
-        return answered(refusal::BATCHES, river);
+        &mut after.amounts,
+        &mut after.carries,
+    )?;
+    if !amounts_fit(river.cells, &after.amounts) {
+        return Err(Refusal::Bounds);
     }
-    if !amounts_fit(river.cells, &amounts) {
-        return answered(refusal::BOUNDS, river);
-    }
-    let after = River {
-        cells: river.cells,
-        amounts,
-        carries: rest,
-    };
-    answered(refusal::NONE, after)
+    Ok(after)
 }

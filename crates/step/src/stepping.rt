@@ -2,21 +2,15 @@
 ghost use Rattle.std.specs.Prelude.{◌≡◌, OnOk, Ok, Err, if◌then◌else◌};
 ghost use Rattle.stoichiometry.specs.declared.refusals.Refusal.TheVariants.{Batches};
 ghost use Rattle.step.specs.Steps.{batches_wrong, stepped_amounts, stepped_carries};
-ghost use Rattle.step.specs.Inner.Stepping.{StepReady, zero_amounts, zero_carries, answer_with};
+ghost use Rattle.step.specs.Inner.Stepping.{StepReady, zero_amounts, zero_carries};
 
 use crate::apply::Terms;
 use crate::rates::Rates;
 use crate::split::batches_fit;
 use kinetics::Conditions;
-use river::{AMOUNTS, CARRIES, Changed, River};
+use river::{AMOUNTS, CARRIES, River};
 use rows::batches_of;
 use stoichiometry::{ENTRIES, Refusal, Set};
-
-pub(crate) fn answered(number: u32, river: River) -> Changed
-    ensures { result ≡ answer_with number river }
-{
-    Changed { number, river }
-}
 
 // Writes the amounts and the carries after into lists of zeros. Where check 7 is not passed it makes no amount: 7 in
 // any cell comes before 8 in any.

@@ -6,3 +6,4 @@ pub mod Totals
 pub mod Batches
 pub mod SetNumber
 pub mod PublishedSet
+pub mod RefusalLaws

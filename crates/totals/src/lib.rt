@@ -6,7 +6,7 @@ ghost use Rattle.totals.specs.Totals.{totals_answer};
 
 use crate::cell_totals::{refused_totals, totals_at};
 use numeric::in_range;
-use river::{River, river_fits};
+use river::River;
 use rows::number_of;
 use stoichiometry::{SUBSTANCES, Set, refusal};
 
@@ -32,7 +32,7 @@ pub fn totals_of(set: Set, river: River, cell: u32) -> Totals
     if number != refusal::NONE {
         return refused_totals(number);
     }
-    if !river_fits(river.cells, &river.amounts, &river.carries) {
+    if !river.fits() {
         return refused_totals(refusal::RIVER);
     }
     if in_range(1, river.cells, cell) {

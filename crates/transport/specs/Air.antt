@@ -1,7 +1,9 @@
 -- Air (scope, "Flow, air, load, and the book"): exchange of O2 with the air, for one cell. No assumptions.
-use Rattle.std.specs.Prelude.{ℕ, ◌*◌, ◌-◌, ◌/◌, Bool, not, ◌&&◌, cond, [], ◌∷◌, leb, eqb, ℤ, pos, ◌+ℤ◌, ◌-ℤ◌, ◌*ℤ◌}
+use Rattle.std.specs.Prelude.{ℕ, ◌*◌, ◌-◌, ◌/◌, Bool, not, ◌&&◌, [], ◌∷◌, leb, ℤ, pos, ◌+ℤ◌, ◌-ℤ◌, ◌*ℤ◌, Result}
 use Rattle.std.specs.Int.Signed.{quot_z}
 use Rattle.numeric.specs.Check.{in_range, first_holding, ◌when◌}
+use Rattle.stoichiometry.specs.declared.refusals.Refusal.{Refusal}
+use Rattle.stoichiometry.specs.Refusals.{answer_of}
 use Rattle.stoichiometry.specs.Substances.{o2, place, grains_per_microgram_o}
 use Rattle.stoichiometry.specs.Levels.{level_of}
 use Rattle.river.specs.declared.River.{River}
@@ -32,7 +34,6 @@ aired_amount r c k seconds saturation = amount_at r.amounts c (place o2) +ℤ ga
 abbrev pub aired : River → ℕ → ℕ → ℕ → ℕ → Aired
 aired r c k seconds saturation =
     record {
-      number = 0;
       river = with_amount r c (place o2) (aired_amount r c k seconds saturation);
       amount = gain_at r c k seconds saturation;
     }
@@ -52,8 +53,7 @@ air_number r cell k seconds saturation =
     ∷ 8 when not (amount_fits (place o2) (aired_amount r (cell - 1) k seconds saturation))
     ∷ [])
 
--- The river with the gain added to the cell's O2, and the gain; on refusal the number, the river handed in, and 0.
-unfoldable pub air_answer : River → ℕ → ℕ → ℕ → ℕ → Aired
+-- The river with the gain added to the cell's O2, and the gain.
+unfoldable pub air_answer : River → ℕ → ℕ → ℕ → ℕ → Result Aired Refusal
 air_answer r cell k seconds saturation =
-    let n = air_number r cell k seconds saturation in
-    cond (eqb n 0) (aired r (cell - 1) k seconds saturation) (record { number = n; river = r; amount = pos 0 })
+    answer_of (air_number r cell k seconds saturation) (aired r (cell - 1) k seconds saturation)

@@ -1,9 +1,11 @@
 -- Flow (scope, "Flow, air, load, and the book"): from each old amount a part passes down, the last cell's leaves;
 -- carries stay. No assumptions.
-use Rattle.std.specs.Prelude.{ℕ, ◌*◌, ◌-◌, ◌/◌, not, cond, List, [], ◌∷◌, leb, ltb, eqb, get_or, replicate, ℤ, pos, ◌+ℤ◌, ◌-ℤ◌, ◌*ℤ◌}
+use Rattle.std.specs.Prelude.{ℕ, ◌*◌, ◌-◌, ◌/◌, not, cond, List, [], ◌∷◌, leb, ltb, get_or, ℤ, pos, ◌+ℤ◌, ◌-ℤ◌, ◌*ℤ◌, Result}
 use Rattle.std.specs.Int.Signed.{quot_z}
 use Rattle.numeric.specs.Check.{first_holding, ◌when◌}
 use Rattle.numeric.specs.Table.{tab}
+use Rattle.stoichiometry.specs.declared.refusals.Refusal.{Refusal}
+use Rattle.stoichiometry.specs.Refusals.{answer_of}
 use Rattle.stoichiometry.specs.Substances.{substances}
 use Rattle.river.specs.declared.River.{River}
 use Rattle.transport.specs.declared.Flowed.{Flowed}
@@ -22,7 +24,7 @@ abbrev pub came_at : ℕ → List ℤ → ℕ → ℤ
 came_at n left k =
     cond (ltb k substances) (pos 0) (cond (ltb (k / substances) n) (get_or left (k - substances) (pos 0)) (pos 0))
 
--- The amounts after: what stayed and what came; and the answer with them.
+-- The amounts after: what stayed and what came; and what is answered of them.
 unfoldable pub moved_of : ℕ → List ℤ → List ℤ → List ℤ
 moved_of n amounts left =
     tab (most_cells * substances) (λ k. get_or amounts k (pos 0) -ℤ get_or left k (pos 0) +ℤ came_at n left k)
@@ -33,7 +35,6 @@ flowed_amounts part r = moved_of r.cells r.amounts (left_of part r.amounts)
 abbrev pub flowed : ℕ → River → Flowed
 flowed part r =
     record {
-      number = 0;
       river = record { cells = r.cells; amounts = flowed_amounts part r; carries = r.carries };
       left = left_of part r.amounts;
     }
@@ -47,9 +48,6 @@ flow_number r part =
     ∷ 8 when not (amounts_fit r.cells (flowed_amounts part r))
     ∷ [])
 
--- The river after and what left each cell; on refusal the number, the river handed in, and zeros.
-unfoldable pub flow_answer : River → ℕ → Flowed
-flow_answer r part =
-    let n = flow_number r part in
-    cond (eqb n 0) (flowed part r)
-    (record { number = n; river = r; left = replicate (most_cells * substances) (pos 0) })
+-- The river after and what left each cell.
+unfoldable pub flow_answer : River → ℕ → Result Flowed Refusal
+flow_answer r part = answer_of (flow_number r part) (flowed part r)

@@ -1,9 +1,10 @@
 -- Load (scope, "Flow, air, load, and the book"): adds a whole number of either sign to one amount. No assumptions.
-use Rattle.std.specs.Prelude.{ℕ, ◌+◌, ◌*◌, ◌-◌, not, ◌&&◌, cond, [], ◌∷◌, eqb, set, ℤ, ◌+ℤ◌}
+use Rattle.std.specs.Prelude.{ℕ, ◌+◌, ◌*◌, ◌-◌, not, ◌&&◌, [], ◌∷◌, set, ℤ, ◌+ℤ◌, Result}
 use Rattle.numeric.specs.Check.{first_holding, ◌when◌}
+use Rattle.stoichiometry.specs.declared.refusals.Refusal.{Refusal}
+use Rattle.stoichiometry.specs.Refusals.{answer_of}
 use Rattle.stoichiometry.specs.Substances.{substances}
 use Rattle.river.specs.declared.River.{River}
-use Rattle.river.specs.declared.Changed.{Changed}
 use Rattle.stoichiometry.specs.Totals.{amount_at}
 use Rattle.river.specs.Rivers.{amount_fits, river_wrong, cell_exists, substance_exists}
 
@@ -24,9 +25,8 @@ load_number r cell substance added =
     ∷ 8 when not (amount_fits (substance - 1) (loaded_amount r cell substance added))
     ∷ [])
 
--- The river with the amount after; on refusal the number and the river handed in.
-unfoldable pub load_answer : River → ℕ → ℕ → ℤ → Changed
+-- The river with the amount after.
+unfoldable pub load_answer : River → ℕ → ℕ → ℤ → Result River Refusal
 load_answer r cell substance added =
-    let n = load_number r cell substance added in
-    let done = with_amount r (cell - 1) (substance - 1) (loaded_amount r cell substance added) in
-    record { number = n; river = cond (eqb n 0) done r }
+    answer_of (load_number r cell substance added)
+    (with_amount r (cell - 1) (substance - 1) (loaded_amount r cell substance added))

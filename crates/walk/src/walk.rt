@@ -7,7 +7,7 @@ use kinetics::{Conditions, Temperatures};
 use river::River;
 use std::io::Result;
 use step::step_river;
-use stoichiometry::{Refusal, Set, refusal};
+use stoichiometry::{Refusal, Set, number_of};
 use totals::{Totals, totals_of};
 use transport::{air_river, flow_river, load_river};
 
@@ -21,8 +21,7 @@ pub(crate) struct Walk {
 impl Walk {
     pub(crate) fn start() -> std::result::Result<Walk, Refusal> {
         let set = published_set()?;
-        let fresh = River::fresh(BOOK as u32);
-        let river = fresh.river;
+        let river = River::fresh(BOOK as u32)?;
         Ok(Walk {
             set,
             river,
@@ -42,13 +41,14 @@ impl Walk {
         let book = self.book;
         let answer = load_river(before, cell, substance, number);
         rt.write_all(b"load ")?;
-        write_number(rt, answer.number)?;
-        let river = answer.river;
-        if answer.number != refusal::NONE {
-            return Ok(Walk { set, river, book });
+        write_number(rt, number_of(&answer))?;
+        match answer {
+            Err(_) => Ok(self),
+            Ok(river) => {
+                let book = with_number(book, set, cell, substance, number);
+                Ok(Walk { set, river, book })
+            }
         }
-        let book = with_number(book, set, cell, substance, number);
-        Ok(Walk { set, river, book })
     }
 
     pub(crate) fn flow(self, rt: &impl Print, part: u32) -> Result<Walk> {
@@ -57,14 +57,16 @@ impl Walk {
         let book = self.book;
         let answer = flow_river(before, part);
         rt.write_all(b"flow ")?;
-        write_number(rt, answer.number)?;
-        let river = answer.river;
-        if answer.number != refusal::NONE {
-            return Ok(Walk { set, river, book });
+        write_number(rt, number_of(&answer))?;
+        match answer {
+            Err(_) => Ok(self),
+            Ok(flowed) => {
+                let river = flowed.river;
+                let left = flowed.left;
+                let book = with_flow(book, set, left);
+                Ok(Walk { set, river, book })
+            }
         }
-        let left = answer.left;
-        let book = with_flow(book, set, left);
-        Ok(Walk { set, river, book })
     }
 
     pub(crate) fn air(
@@ -80,13 +82,15 @@ impl Walk {
         let book = self.book;
         let answer = air_river(before, cell, constant, seconds, saturation);
         rt.write_all(b"air ")?;
-        write_number(rt, answer.number)?;
-        let river = answer.river;
-        if answer.number != refusal::NONE {
-            return Ok(Walk { set, river, book });
+        write_number(rt, number_of(&answer))?;
+        match answer {
+            Err(_) => Ok(self),
+            Ok(aired) => {
+                let river = aired.river;
+                let book = with_number(book, set, cell, O2, aired.amount);
+                Ok(Walk { set, river, book })
+            }
         }
-        let book = with_number(book, set, cell, O2, answer.amount);
-        Ok(Walk { set, river, book })
     }
 
     // A step at a temperature at which every temperature factor is `warmth`, millionths.
@@ -114,8 +118,8 @@ impl Walk {
         };
         let answer = step_river(set, before, given);
         rt.write_all(b"step ")?;
-        write_number(rt, answer.number)?;
-        let river = answer.river;
+        write_number(rt, number_of(&answer))?;
+        let river = answer.unwrap_or(before);
         Ok(Walk { set, river, book })
     }
 

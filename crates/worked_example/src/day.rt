@@ -5,7 +5,7 @@ use anyhow::Result;
 use kinetics::{Conditions, Temperatures};
 use probe::{Amounts, Frame, Oxygen};
 use record::Record;
-use river::River;
+use river::{Letter, River};
 use stoichiometry::{Refusal, Set, number_of, place};
 
 const CELLS: u32 = 2;
@@ -74,8 +74,7 @@ pub(crate) struct Day {
 
 impl Day {
     pub(crate) fn start(rt: &impl Print) -> Result<Day> {
-        let fresh = River::fresh(CELLS);
-        let river = fresh.river;
+        let river = River::fresh(CELLS)?;
         let published = Set::published(rates(), half_saturations());
         write_call(rt, b"set ", number_of(&published))?;
         Ok(Day {
@@ -88,8 +87,8 @@ impl Day {
         let set = self.set;
         let before = self.river;
         let answer = transport::load_river(before, 1, substance, number);
-        write_call(rt, b"load ", answer.number)?;
-        let river = answer.river;
+        write_call(rt, b"load ", number_of(&answer))?;
+        let river = answer.unwrap_or(before);
         Ok(Day { set, river })
     }
 
@@ -137,8 +136,8 @@ impl Day {
             temperatures,
         };
         let answer = step::step_river(set, before, given);
-        write_call(rt, b"step ", answer.number)?;
-        let river = answer.river;
+        write_call(rt, b"step ", number_of(&answer))?;
+        let river = answer.unwrap_or(before);
         Ok(Day { set, river })
     }
 
@@ -147,18 +146,28 @@ impl Day {
         let set = self.set;
         let before = self.river;
         let answer = transport::flow_river(before, 500);
-        write_call(rt, b"flow ", answer.number)?;
-        let river = answer.river;
-        Ok(Day { set, river })
+        write_call(rt, b"flow ", number_of(&answer))?;
+        match answer {
+            Err(_) => Ok(self),
+            Ok(flowed) => Ok(Day {
+                set,
+                river: flowed.river,
+            }),
+        }
     }
 
     fn air(self, rt: &impl Print, cell: u32) -> Result<Day> {
         let set = self.set;
         let before = self.river;
         let answer = transport::air_river(before, cell, AIR_CONSTANT, 600, SATURATION);
-        write_call(rt, b"air ", answer.number)?;
-        let river = answer.river;
-        Ok(Day { set, river })
+        write_call(rt, b"air ", number_of(&answer))?;
+        match answer {
+            Err(_) => Ok(self),
+            Ok(aired) => Ok(Day {
+                set,
+                river: aired.river,
+            }),
+        }
     }
 
     fn ten_minutes(self, rt: &impl Print) -> Result<Day> {
@@ -174,16 +183,15 @@ impl Day {
             .ten_minutes(rt)
     }
 
-    fn letter(self, cell: u32) -> u8 {
-        let answer = river::letter_of(self.river, cell);
-        answer.letter
+    fn letter(self, cell: u32) -> std::result::Result<Letter, Refusal> {
+        river::letter_of(self.river, cell)
     }
 
     // The levels and the letter of each cell, and the record.
     pub(crate) fn write(self, rt: &impl Print) -> Result<()> {
         let river = self.river;
         write_levels(rt, &river.amounts)?;
-        write_letters(rt, self.letter(1), self.letter(2))?;
+        write_letters(rt, self.letter(1)?.byte(), self.letter(2)?.byte())?;
         let mut output = [0; BYTES];
         let mut work = [0; BYTES];
         let written = record::write_record(river, &mut output, &mut work);

@@ -11,9 +11,9 @@ use Rattle.record.proofs.Written.{output_written, work_written}
 use Rattle.record.proofs.write_record.Goals as goal
 use Rattle.record.proofs.write_record.Goals.{then-output-bytes-via-then-output-bytes, then-output-bytes-via-else-output-bytes+then-work-bytes}
 
-pub returns-then-not-river_fits : goal.returns-then-not-river_fits
-returns-then-not-river_fits c =
-    let wrong = wrong_tested c.args.river _ c.river_fits.ensures.answer ∙ ap not c.if-not-river_fits.true in
+pub returns-then-not-fits : goal.returns-then-not-fits
+returns-then-not-fits c =
+    let wrong = wrong_tested c.args.river _ c.fits.ensures.answer ∙ ap not c.if-not-fits.true in
     record {
       answer = ap (λ (n : ℕ). answer_of n tt) (sym (river_refused c.args.river _ _ wrong));
       output = sym (output_stays 4 _ _ refl);
@@ -22,7 +22,7 @@ returns-then-not-river_fits c =
 
 pub returns-then-output-bytes-clause-answer : goal.returns-then-output-bytes-clause-answer
 returns-then-output-bytes-clause-answer c =
-    let right = wrong_tested c.args.river _ c.river_fits.ensures.answer ∙ ap not c.if-not-river_fits.false in
+    let right = wrong_tested c.args.river _ c.fits.ensures.answer ∙ ap not c.if-not-fits.false in
     let ten : write_number c.args.river (length c.args.output.now) (length c.args.work.now) ≡ 10 =
     elim c.then-output-bytes.branch [
       | then-output-bytes-via-then-output-bytes w ↦ output_refused _ _ _ right w.if-output-bytes.true
@@ -39,14 +39,14 @@ returns-then-output-bytes-clause-work c = sym (work_stays 10 _ _ refl)
 
 pub write_cells-requires : goal.write_cells-requires
 write_cells-requires c =
-    let right = wrong_tested c.args.river _ c.river_fits.ensures.answer ∙ ap not c.if-not-river_fits.false in
+    let right = wrong_tested c.args.river _ c.fits.ensures.answer ∙ ap not c.if-not-fits.false in
     ((river-cells _ right).1, c.if-output-bytes.false)
 
 pub returns : goal.returns
 unfolding record_of
 returns c =
     let r = c.args.river in
-    let right = wrong_tested r _ c.river_fits.ensures.answer ∙ ap not c.if-not-river_fits.false in
+    let right = wrong_tested r _ c.fits.ensures.answer ∙ ap not c.if-not-fits.false in
     let room = c.if-output-bytes.false in
     let space = c.if-work-bytes.false in
     record {

@@ -19,20 +19,20 @@ use Rattle.totals.proofs.totals_of.Statement.{statement}
 use Rattle.totals.proofs.totals_of.Tie as tie
 
 -- Where the set was accepted, from the test of the river; and the start, from where the river is known to be right.
-abbrev known : tie.After-river_fits → tie.Else-number-ne-NONE
-known c = c.before.before.before
+abbrev known : tie.After-fits → tie.Else-number-ne-NONE
+known c = c.before.before
 
-abbrev start : tie.Else-not-river_fits → tie.Start
+abbrev start : tie.Else-not-fits → tie.Start
 start c = (known c.before).before.before
 
 accepted : (c : tie.Else-number-ne-NONE) → set_number c.before.before.args.set ≡ 0
 accepted c = sym c.before.number_of-number.ensures ∙ c.if-number-ne-NONE.false
 
-wrong : (c : tie.After-river_fits) → river_wrong (known c).before.before.args.river ≡ not c.river_fits.result
-wrong c = wrong_tested (known c).before.before.args.river _ c.river_fits.ensures
+wrong : (c : tie.After-fits) → river_wrong (known c).before.before.args.river ≡ not c.fits.result
+wrong c = wrong_tested (known c).before.before.args.river _ c.fits.ensures
 
-right : (c : tie.Else-not-river_fits) → river_wrong (start c).args.river ≡ false
-right c = wrong c.before ∙ ap not c.if-not-river_fits.false
+right : (c : tie.Else-not-fits) → river_wrong (start c).args.river ≡ false
+right c = wrong c.before ∙ ap not c.if-not-fits.false
 
 -- The cell exists where the test is passed: its number is from 1 to the number of cells.
 exists : (c : tie.Then-in_range) → let a = (start c.before.before).args in cell_exists a.river a.cell ≡ true
@@ -52,16 +52,16 @@ returns c =
     c.refused_totals.ensures ∙ ap refused_totals is ∙ rw (totals_number_lem a.set a.river a.cell, refused, refused)
 
 -- By 4.
-returns_2 : tie.Need-returns-then-not-river_fits
+returns_2 : tie.Need-returns-then-not-fits
 unfolding totals_answer first_holding
 returns_2 c =
     let at_river = c.before.before in
     let a = (known at_river).before.before.args in
-    c.refused_totals-then-not-river_fits.ensures
+    c.refused_totals-then-not-fits.ensures
     ∙ rw (
       totals_number_lem a.set a.river a.cell,
       accepted (known at_river),
-      wrong at_river ∙ ap not c.before.if-not-river_fits.true,
+      wrong at_river ∙ ap not c.before.if-not-fits.true,
     )
 
 totals_at_requires : tie.Need-totals_at-requires

@@ -1,0 +1,42 @@
+-- `flow_river` meets its contract: past checks 4 and 6 check 8 does not hold either (proofs/FlowLaws.antt).
+-- No assumptions.
+use Rattle.std.proofs.Common.{rules, true}
+use borrow.Author.Tests.{le-leb}
+use Rattle.numeric.specs.Check.{first_holding}
+use Rattle.river.specs.Rivers.{river_wrong}
+use Rattle.river.proofs.Rivers.{wrong_tested, river-cells}
+use Rattle.transport.specs.Flow.{flow_number, flow_answer}
+use Rattle.transport.proofs.FlowLaws.{flow_never_eight}
+use Rattle.transport.proofs.FlowLists.{river-within, left-within}
+use Rattle.transport.proofs.flow_river.Goals as goal
+
+pub left_all-left-requires : goal.left_all-left-requires
+left_all-left-requires c =
+    let right = wrong_tested c.args.river true c.if-not-fits.ensures.answer in
+    (c.if-part-gt-PART_MOST.false, river-within c.args.river right)
+
+pub move_amounts-requires-clause-cells_in_bounds : goal.move_amounts-requires-clause-cells_in_bounds
+move_amounts-requires-clause-cells_in_bounds c =
+    let cells = river-cells c.args.river (wrong_tested c.args.river true c.if-not-fits.ensures.answer) in
+    (cells.0, cells.1, search rules)
+
+pub move_amounts-requires-clause-amounts_within : goal.move_amounts-requires-clause-amounts_within
+move_amounts-requires-clause-amounts_within c =
+    let within = river-within c.args.river (wrong_tested c.args.river true c.if-not-fits.ensures.answer) in
+    let left = left-within c.args.part _ c.args.river.amounts c.if-part-gt-PART_MOST.false within in
+    (within, rw c.left_all-left.ensures left)
+
+pub returns : goal.returns
+unfolding flow_answer flow_number river_wrong first_holding
+returns c =
+    let right = wrong_tested c.args.river true c.if-not-fits.ensures.answer in
+    record {
+      answer =
+          rw (
+            c.move_amounts.ensures,
+            c.left_all-left.ensures,
+            ← c.if-not-fits.ensures.answer,
+            le-leb _ 10000 c.if-part-gt-PART_MOST.false,
+            flow_never_eight c.args.river c.args.part right c.if-part-gt-PART_MOST.false,
+          );
+    }
