@@ -85,67 +85,48 @@ fn figures(level: u32) -> u64
     digits | marks(grams)
 }
 
-// A level in its columns, from `at` on.
-fn write_grams(row: &mut [u8], at: usize, level: u32)
-    requires { (at + level_columns ≤ length row.old) × (level ≤ most_level) }
-    ensures { row.new ≡ put row.old at (grams level) }
+// A level over its columns.
+fn write_grams(columns: &mut [u8], level: u32)
+    requires { (length columns.old ≡ level_columns) × (level ≤ most_level) }
+    ensures { columns.new ≡ grams level }
 {
-    let n = figures(level);
-    let end = at + Page::LEVEL_COLUMNS;
-    let columns = &mut row[at..end];
     columns[0] = b' ';
     columns[1] = b' ';
-    columns[2] = (n % 256) as u8;
-    columns[3] = (n / 256 % 256) as u8;
-    columns[4] = (n / 65536 % 256) as u8;
-    columns[5] = (n / 16777216 % 256) as u8;
-    columns[6] = (n / 4294967296 % 256) as u8;
-    columns[7] = (n / 1099511627776 % 256) as u8;
-    columns[8] = (n / 281474976710656 % 256) as u8;
-    columns[9] = (n / 72057594037927936 % 256) as u8;
+    columns[2..].copy_from_slice(&figures(level).to_le_bytes());
 }
 
-// The levels of a row behind its cell and its letter.
-fn write_levels(row: &mut [u8], levels: &[u32; Page::LEVELS])
-    requires { (row_characters ≤ length row.old) × LevelsWithin levels.now }
-    ensures { row.new ≡ put row.old 4 (levels_text levels.now 6) }
+// The levels of a row over their columns.
+fn write_levels(text: &mut [u8], levels: &[u32; Page::LEVELS])
+    requires { (length text.old ≡ 6 * level_columns) × LevelsWithin levels.now }
+    ensures { text.new ≡ levels_text levels.now 6 }
 {
-    let mut i = 0;
-    while i < Page::LEVELS {
-        write_grams(row, Page::LEVELS_START + i * Page::LEVEL_COLUMNS, levels[i]);
-        i += 1;
+    for i in 0..Page::LEVELS {
+        let at = i * Page::LEVEL_COLUMNS;
+        write_grams(&mut text[at..at + Page::LEVEL_COLUMNS], levels[i]);
     }
 }
 
-// A row, written from `at` on.
-fn write_row(out: &mut [u8], at: usize, cell: u8, letter: u8, levels: &[u32; Page::LEVELS])
-    requires { (at + row_bytes ≤ length out.old) × (cell < 10) × LevelsWithin levels.now }
-    ensures { out.new ≡ put out.old at (row cell letter levels.now) }
+// A row over its bytes.
+fn write_row(text: &mut [u8], cell: u8, letter: u8, levels: &[u32; Page::LEVELS])
+    requires { (length text.old ≡ row_bytes) × (cell < 10) × LevelsWithin levels.now }
+    ensures { text.new ≡ row cell letter levels.now }
 {
-    let end = at + Page::ROW_BYTES;
-    let row = &mut out[at..end];
-    row[0] = b' ';
-    row[1] = b'0' + cell;
-    row[2] = b' ';
-    row[Page::LETTER] = letter;
-    write_levels(row, levels);
-    row[Page::LINE_FEED] = b'\n';
+    text[0] = b' ';
+    text[1] = b'0' + cell;
+    text[2] = b' ';
+    text[Page::LETTER] = letter;
+    write_levels(&mut text[Page::LEVELS_START..Page::LINE_FEED], levels);
+    text[Page::LINE_FEED] = b'\n';
 }
 
-// The row of cell c, from 0, at its place on the page.
-fn write_cell(out: &mut [u8], c: usize, amounts: &[i64; AMOUNTS])
-    requires { (c < most_cells) × (c * row_bytes + row_bytes ≤ length out.old) × CellFits amounts.now c }
-    ensures { out.new ≡ put out.old (c * row_bytes) (row_of amounts.now c) }
+// The row of cell c, from 0, over its bytes.
+fn write_cell(text: &mut [u8], c: usize, amounts: &[i64; AMOUNTS])
+    requires { (length text.old ≡ row_bytes) × (c < most_cells) × CellFits amounts.now c }
+    ensures { text.new ≡ row_of amounts.now c }
 {
     let levels = levels_of(amounts, c);
-    let letter = letter_by(levels[OXYGEN] as u64, levels[AMMONIUM] as u64);
-    write_row(
-        out,
-        c * Page::ROW_BYTES,
-        (c + 1) as u8,
-        letter.byte(),
-        &levels,
-    );
+    let letter = letter_by(u64::from(levels[OXYGEN]), u64::from(levels[AMMONIUM]));
+    write_row(text, (c + 1) as u8, letter.byte(), &levels);
 }
 
 // The rows of the first n cells.
@@ -154,9 +135,8 @@ pub(crate) fn write_rows(out: &mut [u8], n: usize, amounts: &[i64; AMOUNTS])
     requires cells_fit { (c : ℕ) → c < n → CellFits amounts.now c }
     ensures { out.new ≡ put out.old 0 (blocks n (row_of amounts.now)) }
 {
-    let mut c = 0;
-    while c < n {
-        write_cell(out, c, amounts);
-        c += 1;
+    for c in 0..n {
+        let at = c * Page::ROW_BYTES;
+        write_cell(&mut out[at..at + Page::ROW_BYTES], c, amounts);
     }
 }

@@ -3,6 +3,7 @@ use mathlib.Core.Path.{◌≡◌, refl, sym, ap, ap₂, ◌∙◌}
 use mathlib.Core.Bool.{Bool, true, false, cond}
 use mathlib.Core.List.{List, [], ◌∷◌, ◌++◌, append_assoc}
 use Prim.Native.Nat.{ℕ, ◌+◌, ◌*◌, ◌≤◌, ◌<◌}
+use native.Mathlib.Decide.{dec_lt}
 use native.Mathlib.Omega.{arith}
 use borrow.Author.Tests.{lt-ltb, le-ltb}
 use lib.Dec.{eqb}
@@ -73,6 +74,15 @@ module _ (r : River) (output work : ℕ) where
       → write_number r output work ≡ 10
   unfolding write_number first_holding
   work_refused right h l = rw (right, le-ltb output (r.cells * cell_bytes) h, lt-ltb work (r.cells * cell_bytes) l) refl
+
+  -- One of them is too short.
+  pub space_refused : river_wrong r ≡ false → (r.cells * cell_bytes ≤ output → work < r.cells * cell_bytes)
+      → write_number r output work ≡ 10
+  space_refused right h = at (dec_lt output (r.cells * cell_bytes))
+    where
+      at : Dec (output < r.cells * cell_bytes) → write_number r output work ≡ 10
+      at (yes short) = output_refused right short
+      at (no room) = work_refused right (omega arith) (h (omega arith))
 
   pub write_accepted : river_wrong r ≡ false → r.cells * cell_bytes ≤ output → r.cells * cell_bytes ≤ work
       → write_number r output work ≡ 0

@@ -44,7 +44,7 @@ pub fn write_record(river: River, output: &mut [u8], work: &mut [u8]) -> Result<
     }
     let n = river.cells as usize;
     let bytes = n * Record::CELL_BYTES;
-    if output.len() < bytes || work.len() < bytes {
+    if output.len().min(work.len()) < bytes {
         return Err(Refusal::Space);
     }
     write_cells(output, n, &river.amounts, &river.carries);
