@@ -13,10 +13,10 @@ returns c =
     let phosphate = takes_phosphate_lem rates.set _ rates.ready.rows in
     simp (
       c.by.ensures,
-      c.with_uptake.ensures,
+      c.times_if.ensures,
       c.times-nitrate.ensures,
       c.by-2.ensures,
-      c.with_uptake-2.ensures,
+      c.times_if-2.ensures,
       c.times-nitrite.ensures,
       c.times-start.ensures,
       c.by-3.ensures,
@@ -26,6 +26,8 @@ returns c =
       c.monod-no3.ensures,
       c.monod-2.ensures,
       c.monod-phosphate.ensures,
+      c.takes_up.ensures,
+      c.takes_up-2.ensures,
       phosphate 3 (lit< tt),
       phosphate 4 (lit< tt),
       times_first,

@@ -13,11 +13,11 @@ returns c =
     let phosphate = takes_phosphate_lem rates.set _ rates.ready.rows in
     simp (
       c.by.ensures,
-      c.with_uptake.ensures,
+      c.times_if.ensures,
       c.times-ammonium.ensures,
       c.by-2.ensures,
       c.by-3.ensures,
-      c.with_uptake-2.ensures,
+      c.times_if-2.ensures,
       c.times-nitrite.ensures,
       c.by-4.ensures,
       c.monod-o2.ensures,
@@ -26,6 +26,8 @@ returns c =
       c.monod-oxygen.ensures,
       c.monod-2.ensures,
       c.monod-phosphorus.ensures,
+      c.takes_up.ensures,
+      c.takes_up-2.ensures,
       phosphate 6 (lit< tt),
       phosphate 8 (lit< tt),
       times_first,
