@@ -184,69 +184,10 @@ fn with_organics(d: u64, f: Organics) -> u64 {
     with_fractions(with_fractions(with_fractions(bacteria, f.xalg), f.xs), f.xi)
 }
 
-fn with_yields(d: u64, y: Yields, f: InertFractions) -> u64 {
-    let list = [
-        y.aerobic,
-        y.nitrate,
-        y.nitrite,
-        y.xn1,
-        y.xn2,
-        y.death,
-        y.hydrolysis,
-        f.bacteria,
-        f.algae,
-    ];
-    with_figures(d, &list)
-}
-
-fn with_rates(d: u64, k: RateConstants) -> u64 {
-    let list = [
-        k.aerobic.growth,
-        k.aerobic.respiration,
-        k.anoxic.growth,
-        k.anoxic.respiration,
-        k.xn1.growth,
-        k.xn1.respiration,
-        k.xn2.growth,
-        k.xn2.respiration,
-        k.algae.ammonium,
-        k.algae.nitrate,
-        k.algae.respiration,
-        k.algae.death,
-        k.hydrolysis,
-        k.adsorption,
-        k.desorption,
-    ];
-    with_figures(d, &list)
-}
-
-fn with_half_saturations(d: u64, h: HalfSaturations) -> u64 {
-    let list = [
-        h.aerobic.ss,
-        h.aerobic.o2,
-        h.aerobic.nitrogen,
-        h.aerobic.phosphate,
-        h.anoxic.ss,
-        h.anoxic.o2,
-        h.anoxic.no3,
-        h.anoxic.no2,
-        h.anoxic.phosphate,
-        h.xn1.o2,
-        h.xn1.nh4,
-        h.xn1.phosphate,
-        h.xn2.o2,
-        h.xn2.no2,
-        h.xn2.phosphate,
-        h.algae.o2,
-        h.algae.nitrogen,
-        h.algae.nh4,
-        h.algae.phosphate,
-    ];
-    with_figures(d, &list)
-}
-
 fn of_set(set: Set) -> u64 {
     let organics = with_organics(START, set.fractions);
-    let yields = with_yields(organics, set.yields, set.inert);
-    with_half_saturations(with_rates(yields, set.rates), set.half)
+    let yields = with_figures(organics, &set.yields.figures());
+    let inert = with_figures(yields, &[set.inert.bacteria, set.inert.algae]);
+    let rates = with_figures(inert, &set.rates.figures());
+    with_figures(rates, &set.half.figures())
 }
