@@ -2,36 +2,24 @@
 use crate::digest::{Answer, Digest};
 use crate::line::Line;
 use probe::{Amounts, Frame, Oxygen};
+use std::num::f32_from_bits_with_nan;
 use stoichiometry::number_of;
-
-// The bits without the sign that are infinity's; above them stand the NaNs.
-const INFINITY: u32 = 2139095040;
-
-const SIGN: u32 = 2147483648;
-
-fn reading(bits: u32) -> f32 {
-    if bits % SIGN > INFINITY {
-        0.0 / 0.0
-    } else {
-        f32::from_bits(bits)
-    }
-}
 
 // Form 0 is a mass, 1 a percentage, any other a missing reading.
 fn oxygen(form: u32, bits: u32) -> Oxygen {
     match form {
-        0 => Oxygen::Mass(reading(bits)),
-        1 => Oxygen::Percent(reading(bits)),
+        0 => Oxygen::Mass(f32_from_bits_with_nan(bits)),
+        1 => Oxygen::Percent(f32_from_bits_with_nan(bits)),
         _ => Oxygen::Missing,
     }
 }
 
 fn frame_of(line: &Line) -> Frame {
     Frame {
-        ammonium: reading(line.figure(0)),
-        nitrite: reading(line.figure(1)),
-        nitrate: reading(line.figure(2)),
-        phosphate: reading(line.figure(3)),
+        ammonium: f32_from_bits_with_nan(line.figure(0)),
+        nitrite: f32_from_bits_with_nan(line.figure(1)),
+        nitrate: f32_from_bits_with_nan(line.figure(2)),
+        phosphate: f32_from_bits_with_nan(line.figure(3)),
         oxygen: oxygen(line.figure(4), line.figure(5)),
     }
 }

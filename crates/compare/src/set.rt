@@ -170,66 +170,10 @@ fn with_organics(digest: Digest, f: Organics) -> Digest {
         .fold(digest, |digest, f| with_fractions(digest, *f))
 }
 
-fn with_yields(digest: Digest, y: Yields, f: InertFractions) -> Digest {
-    digest.with_all(&[
-        y.aerobic,
-        y.nitrate,
-        y.nitrite,
-        y.xn1,
-        y.xn2,
-        y.death,
-        y.hydrolysis,
-        f.bacteria,
-        f.algae,
-    ])
-}
-
-fn with_rates(digest: Digest, k: RateConstants) -> Digest {
-    digest.with_all(&[
-        k.aerobic.growth,
-        k.aerobic.respiration,
-        k.anoxic.growth,
-        k.anoxic.respiration,
-        k.xn1.growth,
-        k.xn1.respiration,
-        k.xn2.growth,
-        k.xn2.respiration,
-        k.algae.ammonium,
-        k.algae.nitrate,
-        k.algae.respiration,
-        k.algae.death,
-        k.hydrolysis,
-        k.adsorption,
-        k.desorption,
-    ])
-}
-
-fn with_half_saturations(digest: Digest, h: HalfSaturations) -> Digest {
-    digest.with_all(&[
-        h.aerobic.ss,
-        h.aerobic.o2,
-        h.aerobic.nitrogen,
-        h.aerobic.phosphate,
-        h.anoxic.ss,
-        h.anoxic.o2,
-        h.anoxic.no3,
-        h.anoxic.no2,
-        h.anoxic.phosphate,
-        h.xn1.o2,
-        h.xn1.nh4,
-        h.xn1.phosphate,
-        h.xn2.o2,
-        h.xn2.no2,
-        h.xn2.phosphate,
-        h.algae.o2,
-        h.algae.nitrogen,
-        h.algae.nh4,
-        h.algae.phosphate,
-    ])
-}
-
 fn of_set(set: Set) -> Digest {
-    let organics = with_organics(Digest::START, set.fractions);
-    let yields = with_yields(organics, set.yields, set.inert);
-    with_half_saturations(with_rates(yields, set.rates), set.half)
+    with_organics(Digest::START, set.fractions)
+        .with_all(&set.yields.figures())
+        .with_all(&[set.inert.bacteria, set.inert.algae])
+        .with_all(&set.rates.figures())
+        .with_all(&set.half.figures())
 }

@@ -5,7 +5,7 @@
 ghost use Rattle.std.specs.Prelude.{◌≡◌};
 ghost use Rattle.kinetics.specs.Conditions.{temperatures_fit, conditions_wrong};
 
-use numeric::{both, in_range};
+use numeric::in_range;
 use stoichiometry::Seconds;
 
 // Temperature factors, millionths: of XH, XN1, XN2, XALG and hydrolysis.
@@ -20,6 +20,16 @@ pub struct Temperatures {
 
 impl Temperatures {
     pub const MOST: u32 = 4000000;
+
+    // Every factor is at most MOST.
+    #[tactic(auto, unfolding(crate::specs::Conditions::temperatures_fit))]
+    fn fit(&self) -> bool
+        ensures { result ≡ temperatures_fit self.now }
+    {
+        [self.xh, self.xn1, self.xn2, self.algae, self.hydrolysis]
+            .iter()
+            .all(|x| *x <= Temperatures::MOST)
+    }
 }
 
 // What a step is given besides the set and the river: seconds, light in millionths, temperature factors.
@@ -34,27 +44,12 @@ impl Conditions {
     pub const LIGHT_MOST: u32 = 1000000;
 }
 
-fn temperatures_fit(t: Temperatures) -> bool
-    ensures { result ≡ temperatures_fit t }
-{
-    let most = Temperatures::MOST;
-    both(
-        both(
-            both(both(t.xh <= most, t.xn1 <= most), t.xn2 <= most),
-            t.algae <= most,
-        ),
-        t.hydrolysis <= most,
-    )
-}
-
 // Check 6 of a step.
+#[tactic(auto, unfolding(crate::specs::Conditions::conditions_wrong))]
 pub fn conditions_wrong(conditions: Conditions) -> bool
     ensures answer { result ≡ conditions_wrong conditions }
 {
     let seconds = in_range(Seconds::LEAST, Seconds::MOST, conditions.seconds);
     let light = conditions.light <= Conditions::LIGHT_MOST;
-    !both(
-        both(seconds, light),
-        temperatures_fit(conditions.temperatures),
-    )
+    !(seconds && light && conditions.temperatures.fit())
 }

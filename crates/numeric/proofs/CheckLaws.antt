@@ -1,5 +1,5 @@
--- Laws of `every` and `all_of`, as the invariant of a checking loop wants them (start, a turn, both exits), of `every`
--- as its users do, and of `first_holding`. No assumptions.
+-- Laws of `every`, as the invariant of a checking loop wants them (start, a turn, both exits) and as its users do; of
+-- `all_of` and of `first_holding`. No assumptions.
 use Prim.Native.Nat.{ℕ, zero, suc, ◌<◌, ◌≤◌, ◌+◌, ◌*◌, ◌-◌, ◌/◌}
 use mathlib.Core.Bool.{Bool, true, false, not, ◌&&◌, and_assoc, and-true, cond, true≢false}
 use mathlib.Core.List.{List, [], ◌∷◌, ◌++◌}
@@ -10,8 +10,7 @@ use native.Mathlib.Decide.{dec_lt}
 use native.Mathlib.Omega.{arith}
 use lib.Dec.{leb, ltb, eqb}
 use lib.IntN.{ℤ, pos, nat_abs}
-use lib.ListN.{length, get_or, take}
-use lib.Seq.{take-suc, take_all}
+use lib.ListN.{length, get_or}
 use borrow.Author.Tests.{ne_eqb, eqb-true, eqb-false, not-true, leb-true, ltb-true, lt-ltb, le-ltb}
 use Rattle.numeric.specs.Check.{every, all_of, Check, ◌when◌, first_holding}
 
@@ -123,31 +122,8 @@ module _ (w n m : ℕ) (p q : ℕ → Bool) (some : 0 < w) where
       by_row k l (yes j) = rw (row_in w n k some j) ((h k l).0 j)
       by_row k l (no g) = let j : n * w ≤ k = omega arith in rw (row_beyond w n k some j) ((h k l).1 j)
 
--- A loop over a list has passed `take i xs`; `d` is what `get_or` answers past the end.
+-- `d` is what `get_or` answers past the end.
 module _ {A : Type 0} (p : A → Bool) where
-  pub all_of_nil : all_of p [] ≡ true
-  unfolding all_of
-  all_of_nil = refl
-
-  all_of-append : (xs ys : List A) → all_of p (xs ++ ys) ≡ all_of p xs && all_of p ys
-  unfolding all_of
-  all_of-append [] ys = refl
-  all_of-append (x ∷ xs) ys = rw (all_of-append xs ys, and_assoc)
-
-  pub all_of_more : (xs : List A) (i : ℕ) (d : A) → i < length xs → all_of p (take i xs) ≡ true → p (get_or xs i d) ≡ true
-      → all_of p (take (i + 1) xs) ≡ true
-  unfolding all_of
-  all_of_more xs i d h e q = rw (add-one, take-suc xs i d, all_of-append, e, q)
-
-  pub all_of_fails : (xs : List A) (i : ℕ) (d : A) → i < length xs → p (get_or xs i d) ≡ false → all_of p xs ≡ false
-  unfolding all_of
-  all_of_fails [] i d h e = absurd (omega arith)
-  all_of_fails (x ∷ xs) zero d h e = rw e
-  all_of_fails (x ∷ xs) (suc i) d h e = rw (all_of_fails xs i d (omega arith) e, and-false)
-
-  pub all_of_done : (xs : List A) (i : ℕ) → length xs ≤ i → all_of p (take i xs) ≡ true → all_of p xs ≡ true
-  all_of_done xs i h e = rw take_all at e
-
   pub all_of_at : (xs : List A) (i : ℕ) (d : A) → all_of p xs ≡ true → i < length xs → p (get_or xs i d) ≡ true
   unfolding all_of
   all_of_at [] i d e h = absurd (omega arith)

@@ -1,6 +1,7 @@
 -- Checks: a number from low to high, a test of every number below n or of every element of a list, and the number of
 -- the first check that holds, which is what a call refuses with. Laws: proofs/CheckLaws.antt. No assumptions.
 use Rattle.std.specs.Prelude.{ℕ, zero, suc, Bool, true, false, ◌&&◌, List, [], ◌∷◌, leb}
+use Rattle.std.specs.List.{list_all}
 
 -- A number is from low to high, both included.
 abbrev pub in_range : ℕ → ℕ → ℕ → Bool
@@ -13,8 +14,7 @@ every (suc n) p = every n p && p n
 
 -- Every element of the list passes the test p.
 unfoldable pub all_of : {A : Type 0} → (A → Bool) → List A → Bool
-all_of p [] = true
-all_of p (x ∷ xs) = p x && all_of p xs
+all_of p xs = list_all p xs
 
 infix 68 ◌when◌
 -- A check: the number that a call refuses with when the test holds.

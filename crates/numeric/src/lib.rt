@@ -9,23 +9,19 @@ ghost use Rattle.numeric.specs.Check.{in_range};
 pub fn both(a: bool, b: bool) -> bool
     ensures { result ≡ (a && b) }
 {
-    if a { b } else { false }
+    a && b
 }
 
 // A number is from low to high, both included.
 pub fn in_range(low: u32, high: u32, x: u32) -> bool
     ensures { result ≡ in_range low high x }
 {
-    both(low <= x, x <= high)
+    (low..=high).contains(&x)
 }
 
-// The number without its sign. One is added before it is negated, since the least number has no negative in 64 bits.
+// The number without its sign.
 pub fn magnitude(value: i64) -> u64
     ensures { result ≡ nat_abs value }
 {
-    if value < 0 {
-        (-(value + 1)) as u64 + 1
-    } else {
-        value as u64
-    }
+    value.unsigned_abs()
 }

@@ -2,38 +2,26 @@
 use crate::write::write_answer;
 use probe::{Frame, Oxygen};
 use std::io::Result;
-
-// The bits without the sign that are infinity's; above them stand the NaNs.
-const INFINITY: u32 = 2139095040;
-
-const SIGN: u32 = 2147483648;
-
-fn reading(bits: u32) -> f32 {
-    if bits % SIGN > INFINITY {
-        0.0 / 0.0
-    } else {
-        f32::from_bits(bits)
-    }
-}
+use std::num::f32_from_bits_with_nan;
 
 // Converts a frame, given by the bits of NH4-N, NO2-N, NO3-N and PO4-P, and writes its answer.
 fn show(rt: &impl Print, bits: [u32; 4], oxygen: Oxygen, saturation: u32) -> Result<()> {
     let frame = Frame {
-        ammonium: reading(bits[0]),
-        nitrite: reading(bits[1]),
-        nitrate: reading(bits[2]),
-        phosphate: reading(bits[3]),
+        ammonium: f32_from_bits_with_nan(bits[0]),
+        nitrite: f32_from_bits_with_nan(bits[1]),
+        nitrate: f32_from_bits_with_nan(bits[2]),
+        phosphate: f32_from_bits_with_nan(bits[3]),
         oxygen,
     };
     write_answer(rt, probe::amounts_of(frame, saturation))
 }
 
 fn mass(bits: u32) -> Oxygen {
-    Oxygen::Mass(reading(bits))
+    Oxygen::Mass(f32_from_bits_with_nan(bits))
 }
 
 fn percent(bits: u32) -> Oxygen {
-    Oxygen::Percent(reading(bits))
+    Oxygen::Percent(f32_from_bits_with_nan(bits))
 }
 
 // Masses as a probe reads them, and smaller than a µg.

@@ -1,12 +1,11 @@
 -- The published set (specs/Parameters.antt) is accepted with all rate constants and half-saturations that are in their
 -- ranges: its fractions, yields and rows do not depend on them. So `Set::published` refuses with 2 or answers an
 -- accepted set. No assumptions.
-use Prim.Native.Nat.{ℕ}
 use mathlib.Core.Bool.{Bool, true, false}
 use mathlib.Core.Logic.{◌⊎◌, inl, inr, ⊎_elim}
 use mathlib.Core.Path.{◌≡◌, refl, sym, ap, ◌∙◌, transport}
 use native.Mathlib.Omega.{arith}
-use Rattle.std.specs.Prelude.{Result, Ok, Err}
+use Rattle.std.specs.Prelude.{Ok, Err}
 use Rattle.std.specs.Result.{result_unwrap_or}
 use Rattle.stoichiometry.specs.Refusals.{number_of}
 use Rattle.numeric.specs.Check.{every, all_of, first_holding}

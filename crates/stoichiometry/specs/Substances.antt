@@ -1,7 +1,7 @@
 -- The substances (scope, "Units and substances"): their order, what one of each holds, and the contents of an amount
 -- of one. A grain, the customer's unit of a substance that is no organic, is 1/312,480 nmol; organics are in µg of
 -- organic matter. Laws: proofs/Contents.antt. No assumptions.
-use Rattle.std.specs.Prelude.{ℕ, ◌*◌, List, [], ◌∷◌, map, get_or, ℤ, pos, neg_ℤ, ◌*ℤ◌}
+use Rattle.std.specs.Prelude.{ℕ, List, [], ◌∷◌, map, get_or, ℤ, pos, neg_ℤ, ◌*ℤ◌}
 use Rattle.stoichiometry.specs.declared.Fractions.{Fractions}
 use Rattle.stoichiometry.specs.declared.Set.{Set}
 

@@ -15,6 +15,7 @@ pub fn read_full<R: Read>(input: &mut R, buf: &mut [u8]) -> Result<usize>
     ensures bytes { IfOk result (λ n. Consumes (R.remaining input.old) (R.remaining input.new) (take n buf.new)) }
     ensures end { IfOk result (λ n. n < length buf.new → IsAtEnd (R.remaining input.new)) }
 {
+    // std's `read_exact` does not tell how many bytes there were where the input ends before `buf` is full.
     let mut done = 0;
     while done < buf.len() {
         let n = input.read(&mut buf[done..])?;

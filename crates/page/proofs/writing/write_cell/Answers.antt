@@ -1,6 +1,6 @@
 -- `write_cell` meets its contract: the levels of the cell, the letter by two of them, and its row. No assumptions.
 use Rattle.std.proofs.Common.{◌≡◌, ◌+◌, ℕ, List, ap, ap₂, ◌∙◌, arith, get_or}
-use Rattle.river.specs.Cells.{letter_by, letter_of}
+use Rattle.river.specs.Cells.{byte, letter_by, letter_of}
 use Rattle.page.specs.Pages.{row, levels_at, row_of}
 use Rattle.page.proofs.writing.write_cell.Goals as goal
 
@@ -11,9 +11,9 @@ pub returns : goal.returns
 unfolding levels_at row_of letter_of
 returns c =
     let levels_are = c.levels_of-levels.ensures in
-    let letter_is : c.byte.result ≡ letter_of c.args.amounts.now c.args.c =
+    let letter_is : c.byte.result ≡ byte (letter_of c.args.amounts.now c.args.c) =
     c.byte.ensures.answer
-    ∙ c.letter_by-letter.ensures.answer
-    ∙ ap₂ letter_by c.from.ensures c.from-2.ensures
-    ∙ ap (λ (l : List ℕ). letter_by (get_or l 5 0) (get_or l 1 0)) levels_are in
+    ∙ ap byte c.letter_by-letter.ensures.answer
+    ∙ ap byte (ap₂ letter_by c.from.ensures c.from-2.ensures)
+    ∙ ap (λ (l : List ℕ). byte (letter_by (get_or l 5 0) (get_or l 1 0))) levels_are in
     c.write_row.ensures ∙ ap₂ (row (c.args.c + 1)) letter_is levels_are
