@@ -23,10 +23,10 @@ mod stepping;
 pub fn step_river(set: Set, river: River, conditions: Conditions) -> Changed
     ensures answer { result ≡ step_answer set river conditions }
 {
-    let rows = rows_of(set);
-    if rows.number != refusal::NONE {
-        return answered(rows.number, river);
-    }
+    let rows = match rows_of(set) {
+        Ok(rows) => rows,
+        Err(refusal) => return answered(refusal.number(), river),
+    };
     if !river_fits(river.cells, &river.amounts, &river.carries) {
         return answered(refusal::RIVER, river);
     }
