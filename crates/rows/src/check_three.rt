@@ -6,8 +6,7 @@ ghost use Rattle.stoichiometry.specs.declared.Set.{Set as AnySet};
 ghost use Rattle.rows.specs.Inner.Code.{asked_list, spares, asked_of, wrong_of};
 
 use crate::check_three::Asked::{ConsumesO2, TakesUpNothing, Unasked};
-use crate::row::Made;
-use stoichiometry::{PROCESSES, SUBSTANCES, place};
+use stoichiometry::{ENTRIES, PROCESSES, SUBSTANCES, place};
 
 // What check 3 asks of a process.
 #[derive(Clone, Copy)]
@@ -40,40 +39,38 @@ const ASKED_OF_EACH: [Asked; PROCESSES] = [
     Unasked,
 ];
 
-impl Made {
-    // The process at p takes up nothing of the substance at place s.
-    fn spares(&self, p: usize, s: usize) -> bool
-        requires process_exists { p < processes }
-        requires substance_exists { s < substances }
-        ensures { result ≡ spares self.now p s }
-    {
-        0 <= self.entries[p * SUBSTANCES + s]
-    }
+// The process at p takes up nothing of the substance at place s.
+fn spares(entries: &[i64; ENTRIES], p: usize, s: usize) -> bool
+    requires process_exists { p < processes }
+    requires substance_exists { s < substances }
+    ensures { result ≡ spares entries.now p s }
+{
+    0 <= entries[p * SUBSTANCES + s]
+}
 
-    // The process at p has what check 3 asks of it.
-    fn meets(&self, p: usize, asked: Asked) -> bool
-        requires { p < processes }
-        ensures { result ≡ asked_of self.now p asked }
-    {
-        match asked {
-            ConsumesO2 => self.oxygen[p] < 0,
-            TakesUpNothing => self.spares(p, place::NH4)
-                && self.spares(p, place::HPO4)
-                && self.spares(p, place::O2)
-                && self.spares(p, place::HCO3),
-            Unasked => true,
+// The process at p has what check 3 asks of it.
+fn meets(entries: &[i64; ENTRIES], oxygen: &[i64; PROCESSES], p: usize, asked: Asked) -> bool
+    requires { p < processes }
+    ensures { result ≡ asked_of entries.now oxygen.now p asked }
+{
+    match asked {
+        ConsumesO2 => oxygen[p] < 0,
+        TakesUpNothing => spares(entries, p, place::NH4)
+            && spares(entries, p, place::HPO4)
+            && spares(entries, p, place::O2)
+            && spares(entries, p, place::HCO3),
+        Unasked => true,
+    }
+}
+
+// Check 3: some process has not what is asked of it.
+pub(crate) fn rows_wrong(entries: &[i64; ENTRIES], oxygen: &[i64; PROCESSES]) -> bool
+    ensures { (set : AnySet) → result ≡ wrong_of (asked_list set) entries.now oxygen.now }
+{
+    for (p, asked) in ASKED_OF_EACH.iter().enumerate() {
+        if !meets(entries, oxygen, p, *asked) {
+            return true;
         }
     }
-
-    // Check 3: some process has not what is asked of it.
-    pub(crate) fn rows_wrong(&self) -> bool
-        ensures { (set : AnySet) → result ≡ wrong_of (asked_list set) self.now }
-    {
-        for (p, asked) in ASKED_OF_EACH.iter().enumerate() {
-            if !self.meets(p, *asked) {
-                return true;
-            }
-        }
-        false
-    }
+    false
 }

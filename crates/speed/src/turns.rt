@@ -72,9 +72,14 @@ pub(crate) fn load_turn(river: River, sum: u64, turn: u64) -> u64 {
 pub(crate) fn rows_turn(set: Set, sum: u64, turn: u64) -> u64 {
     let answer = rows::rows_of(set);
     let entry = (turn % 153) as usize;
-    let with_number = with(sum, answer.number as u64);
-    let with_one = with_signed(with_number, answer.entries[entry]);
-    with_signed(with_one, answer.entries[entry + 153])
+    let with_number = with(sum, number_of(&answer) as u64);
+    match answer {
+        Ok(rows) => {
+            let with_one = with_signed(with_number, rows.entries[entry]);
+            with_signed(with_one, rows.entries[entry + 153])
+        }
+        Err(_) => with_signed(with_signed(with_number, 0), 0),
+    }
 }
 
 pub(crate) fn write_turn(

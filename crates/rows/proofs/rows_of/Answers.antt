@@ -1,9 +1,7 @@
 -- `rows_of` meets its contract: each test is a check of the definition; the first that holds gives the refusal, and
 -- where none does the rows are those that were made. No assumptions.
-use Rattle.std.proofs.Common.{◌∙◌, sym, ap, Ok}
+use Rattle.std.proofs.Common.{◌∙◌, sym, Ok}
 use Rattle.stoichiometry.proofs.SetNumber.{number-one, number_two, number_three, number_zero}
-use Rattle.rows.specs.declared.row.Made.{Made}
-use Rattle.rows.specs.Inner.Code.{made_of, asked_list, wrong_of}
 use Rattle.rows.proofs.AnswerLaws.{rows_refused, rows_accepted}
 use Rattle.rows.proofs.CheckThree.{wrong_of_made}
 use Rattle.rows.proofs.EntryBounds.{rows_bound}
@@ -24,8 +22,8 @@ returns-then-figures_wrong-clause-answer c =
     let wrong = sym c.figures_wrong.ensures.answer ∙ c.if-figures_wrong.true in
     sym (rows_refused c.args.set 1 (number_two c.args.set right wrong))
 
-pub of-made-requires : goal.of-made-requires
-of-made-requires c =
+pub fill_rows-requires : goal.fill_rows-requires
+fill_rows-requires c =
     let right = sym c.fractions_wrong.ensures.answer ∙ c.if-fractions_wrong.false in
     let in_range = sym c.figures_wrong.ensures.answer ∙ c.if-figures_wrong.false in
     ranged c.args.set right in_range
@@ -36,27 +34,24 @@ returns-then-rows_wrong-clause-answer c =
     let set = c.args.set in
     let right = sym c.fractions_wrong.ensures.answer ∙ c.if-fractions_wrong.false in
     let in_range = sym c.figures_wrong.ensures.answer ∙ c.if-figures_wrong.false in
-    let tested = c.rows_wrong.ensures set ∙ ap (wrong_of (asked_list set)) c.of-made.ensures ∙ wrong_of_made set in
+    let tested = c.rows_wrong.ensures set ∙ wrong_of_made set c.fill_rows.ensures.entries_after c.fill_rows.ensures.oxygen_after in
     sym (rows_refused set 2 (number_three set right in_range (sym tested ∙ c.if-rows_wrong.true)))
 
 -- Accepted.
 pub returns-clause-answer : goal.returns-clause-answer
-unfolding made_of
 returns-clause-answer c =
     let set = c.args.set in
     let right = sym c.fractions_wrong.ensures.answer ∙ c.if-fractions_wrong.false in
     let in_range = sym c.figures_wrong.ensures.answer ∙ c.if-figures_wrong.false in
-    let tested = c.rows_wrong.ensures set ∙ ap (wrong_of (asked_list set)) c.of-made.ensures ∙ wrong_of_made set in
+    let tested = c.rows_wrong.ensures set ∙ wrong_of_made set c.fill_rows.ensures.entries_after c.fill_rows.ensures.oxygen_after in
     let accepted = rows_accepted set (number_zero set right in_range (sym tested ∙ c.if-rows_wrong.false)) in
-    ap (λ (made : Made). Ok (record { entries = made.entries })) c.of-made.ensures ∙ sym accepted
+    (λ i. Ok (record { entries = c.fill_rows.ensures.entries_after i })) ∙ sym accepted
 
 pub returns-clause-bounded : goal.returns-clause-bounded
-unfolding made_of
 returns-clause-bounded c =
     let right = sym c.fractions_wrong.ensures.answer ∙ c.if-fractions_wrong.false in
     let in_range = sym c.figures_wrong.ensures.answer ∙ c.if-figures_wrong.false in
-    rw c.of-made.ensures (rows_bound c.args.set right in_range)
+    rw c.fill_rows.ensures.entries_after (rows_bound c.args.set right in_range)
 
 pub returns-clause-zeros : goal.returns-clause-zeros
-unfolding made_of
-returns-clause-zeros c = rw c.of-made.ensures (rows_none c.args.set)
+returns-clause-zeros c = rw c.fill_rows.ensures.entries_after (rows_none c.args.set)

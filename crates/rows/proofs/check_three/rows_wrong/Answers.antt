@@ -1,10 +1,10 @@
--- `Made::rows_wrong` meets its contract: a process that has not what is asked of it ends the loop. No assumptions.
+-- `rows_wrong` meets its contract: a process that has not what is asked of it ends the loop. No assumptions.
 use Rattle.std.proofs.Common.{◌≡◌, sym, ap, ◌∙◌, arith}
 use mathlib.Core.Bool.{not}
 use Rattle.numeric.proofs.CheckLaws.{every-none, every_more, every_fails}
 use Rattle.stoichiometry.specs.Rows.{processes, processes_of}
 use Rattle.rows.specs.Inner.Code.{asked_list, wrong_of}
-use Rattle.rows.proofs.row.Made.rows_wrong.Goals as goal
+use Rattle.rows.proofs.check_three.rows_wrong.Goals as goal
 
 pub loop-p-init : goal.loop-p-init
 loop-p-init c = every-none _

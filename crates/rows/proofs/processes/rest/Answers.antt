@@ -1,4 +1,4 @@
--- `Made::rest` meets its contract: 15 to 17, each with the organic changes that it is called with; each row is stored
+-- `rest` meets its contract: 15 to 17, each with the organic changes that it is called with; each row is stored
 -- after the one before. No assumptions.
 use Rattle.std.proofs.Common.{refl, rules}
 use Rattle.stoichiometry.specs.Substances.{ss, xs, xi}
@@ -6,7 +6,7 @@ use Rattle.stoichiometry.specs.Rows.{processes_of, process_at}
 use Rattle.rows.proofs.Ranges.{nothing_small}
 use Rattle.rows.proofs.RowEntries.{same_none, same_two}
 use Rattle.rows.proofs.Storing.{figure_is, none_stored, one_more}
-use Rattle.rows.proofs.row.Made.rest.Goals as goal
+use Rattle.rows.proofs.processes.rest.Goals as goal
 
 pub others_of-d15-requires : goal.others_of-d15-requires
 others_of-d15-requires c = let f = c.requires.fractions in (f xs, f ss, f xi, nothing_small)
@@ -22,8 +22,8 @@ unfolding process_at processes_of
 returns c =
     let set = c.args.set.now in
     let s1 =
-    one_more set 14 0 xs ss xi (none_stored set 14 _) (same_two refl (figure_is c.requires.hydrolysis)) refl
-    c.others_of-d15.ensures c.put.ensures in
-    let s2 = one_more set 14 1 xi xi xi s1 same_none refl c.others_of-d16.ensures c.put-2.ensures in
-    let s3 = one_more set 14 2 xi xi xi s2 same_none refl c.others_of-d17.ensures c.put-3.ensures in
-    s3.stored
+    one_more set 14 0 xs ss xi (none_stored set 14 _ _) (same_two refl (figure_is c.requires.hydrolysis)) refl
+    c.others_of-d15.ensures (c.put.ensures.entries_after, c.put.ensures.oxygen_after) in
+    let s2 = one_more set 14 1 xi xi xi s1 same_none refl c.others_of-d16.ensures (c.put-2.ensures.entries_after, c.put-2.ensures.oxygen_after) in
+    let s3 = one_more set 14 2 xi xi xi s2 same_none refl c.others_of-d17.ensures (c.put-3.ensures.entries_after, c.put-3.ensures.oxygen_after) in
+    record { entries_after = s3.rows; oxygen_after = s3.oxygen }

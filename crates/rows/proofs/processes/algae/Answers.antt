@@ -1,4 +1,4 @@
--- `Made::algae` meets its contract: 11 to 14, each with the organic changes that it is called with; each row is stored
+-- `algae` meets its contract: 11 to 14, each with the organic changes that it is called with; each row is stored
 -- after the one before. No assumptions.
 use Rattle.std.proofs.Common.{◌*◌, ◌-◌, ◌≤◌, refl, arith}
 use borrow.Author.Rules.{sfits_of}
@@ -10,7 +10,7 @@ use Rattle.rows.specs.Inner.Code.{Ranged}
 use Rattle.rows.proofs.Ranges.{nothing_small}
 use Rattle.rows.proofs.RowEntries.{same_one, same_two, same_three}
 use Rattle.rows.proofs.Storing.{amount-is, figure_is, none_stored, one_more}
-use Rattle.rows.proofs.row.Made.algae.Goals as goal
+use Rattle.rows.proofs.processes.algae.Goals as goal
 
 -- What a death makes of XS and of XI.
 made_le : (set : Set) → Ranged set → set.yields.death * (100 - set.inert.algae) ≤ 10000
@@ -48,10 +48,10 @@ unfolding process_at processes_of
 returns c =
     let set = c.args.set.now in
     let g = c.requires in
-    let s1 = one_more set 10 0 xalg xi xi (none_stored set 10 _) (same_one refl) refl c.others_of-d11.ensures c.put.ensures in
-    let s2 = one_more set 10 1 xalg xi xi s1 (same_one refl) refl c.others_of-d12.ensures c.put-2.ensures in
-    let s3 = one_more set 10 2 xalg xi xi s2 (same_two refl (figure_is g.algae)) refl c.others_of-d13.ensures c.put-3.ensures in
+    let s1 = one_more set 10 0 xalg xi xi (none_stored set 10 _ _) (same_one refl) refl c.others_of-d11.ensures (c.put.ensures.entries_after, c.put.ensures.oxygen_after) in
+    let s2 = one_more set 10 1 xalg xi xi s1 (same_one refl) refl c.others_of-d12.ensures (c.put-2.ensures.entries_after, c.put-2.ensures.oxygen_after) in
+    let s3 = one_more set 10 2 xalg xi xi s2 (same_two refl (figure_is g.algae)) refl c.others_of-d13.ensures (c.put-3.ensures.entries_after, c.put-3.ensures.oxygen_after) in
     let s4 =
     one_more set 10 3 xalg xs xi s3 (same_three refl (amount-is (made_le set g)) (amount-is (lost_le set g))) refl
-    c.others_of-d14.ensures c.put-4.ensures in
-    s4.stored
+    c.others_of-d14.ensures (c.put-4.ensures.entries_after, c.put-4.ensures.oxygen_after) in
+    record { entries_after = s4.rows; oxygen_after = s4.oxygen }
