@@ -7,7 +7,7 @@ ghost use Rattle.river.specs.Rivers.{amount_fits};
 ghost use Rattle.transport.specs.Air.{exchanged, gain, air_figure_wrong};
 
 use crate::Aired;
-use numeric::{both, in_range};
+use numeric::in_range;
 use stoichiometry::{Saturation, Seconds, Set};
 
 // The air constant is in thousandths per day, the part of a difference that is exchanged in billionths.
@@ -15,28 +15,12 @@ const BILLIONTHS_PER_THOUSANDTH: u64 = 1000000;
 
 const BILLIONTHS: i64 = 1000000000;
 
-// Check 6 of air.
-pub(crate) fn figure_wrong(constant: u32, seconds: u32, saturation: u32) -> bool
-    ensures { result ≡ air_figure_wrong constant seconds saturation }
-{
-    let time = in_range(Seconds::LEAST, Seconds::MOST, seconds);
-    let rate = both(constant <= Aired::CONSTANT_MOST, time);
-    !both(rate, saturation <= Saturation::MOST)
-}
-
-fn wide(x: u32) -> i64
-    ensures { result ≡ pos x }
-{
-    x as i64
-}
-
-// The customer's g: the part of a difference that is exchanged, in billionths.
-fn exchanged_part(constant: u32, seconds: u32) -> i64
-    requires constant { constant ≤ 20000 }
-    requires seconds { seconds ≤ most_seconds }
-    ensures { result ≡ pos (exchanged constant seconds) }
-{
-    (constant as u64 * BILLIONTHS_PER_THOUSANDTH * seconds as u64 / Seconds::PER_DAY) as i64
+// What an exchange is given: the constant in thousandths per day, how long it lasts, and the O2 of saturated water, µg.
+#[derive(Clone, Copy)]
+pub(crate) struct Exchange {
+    pub constant: u32,
+    pub seconds: u32,
+    pub saturation: u32,
 }
 
 // The level of an amount of O2, µg. The amount is not negative, so the quotient is rounded down.
@@ -47,12 +31,34 @@ fn oxygen_level(amount: i64) -> i64
     amount / Set::GRAINS_PER_MICROGRAM_O
 }
 
-// The O2 that air brings to an amount of O2, grains, signed.
-pub(crate) fn gain_of(constant: u32, seconds: u32, saturation: u32, amount: i64) -> i64
-    requires figures { air_figure_wrong constant seconds saturation ≡ false }
-    requires amount { amount_fits (place o2) amount ≡ true }
-    ensures { result ≡ gain constant seconds saturation amount }
-{
-    let difference = wide(saturation) - oxygen_level(amount);
-    difference * exchanged_part(constant, seconds) / BILLIONTHS * Set::GRAINS_PER_MICROGRAM_O
+impl Exchange {
+    // Check 6 of air.
+    #[tactic(auto, unfolding(crate::specs::Air::air_figure_wrong))]
+    pub(crate) fn is_wrong(&self) -> bool
+        ensures { result ≡ air_figure_wrong self.now.constant self.now.seconds self.now.saturation }
+    {
+        !(self.constant <= Aired::CONSTANT_MOST
+            && in_range(Seconds::LEAST, Seconds::MOST, self.seconds)
+            && self.saturation <= Saturation::MOST)
+    }
+
+    // The customer's g: the part of a difference that is exchanged, in billionths.
+    fn part(&self) -> i64
+        requires constant { self.now.constant ≤ 20000 }
+        requires seconds { self.now.seconds ≤ most_seconds }
+        ensures { result ≡ pos (exchanged self.now.constant self.now.seconds) }
+    {
+        (self.constant as u64 * BILLIONTHS_PER_THOUSANDTH * self.seconds as u64
+            / Seconds::PER_DAY) as i64
+    }
+
+    // The O2 that air brings to an amount of O2, grains, signed.
+    pub(crate) fn gain(&self, amount: i64) -> i64
+        requires figures { air_figure_wrong self.now.constant self.now.seconds self.now.saturation ≡ false }
+        requires amount { amount_fits (place o2) amount ≡ true }
+        ensures { result ≡ gain self.now.constant self.now.seconds self.now.saturation amount }
+    {
+        let difference = self.saturation as i64 - oxygen_level(amount);
+        difference * self.part() / BILLIONTHS * Set::GRAINS_PER_MICROGRAM_O
+    }
 }

@@ -1,5 +1,5 @@
 // Flow: a part of each amount passes from its cell to the next, and from the last cell out of the river.
-ghost use Rattle.std.specs.Prelude.{◌≡◌, ◌≤◌, ◌*◌, ◌/◌, length, nat_abs, ◌+ℤ◌, ◌-ℤ◌};
+ghost use Rattle.std.specs.Prelude.{◌≡◌, ◌≤◌, ◌*◌, ◌/◌, length, nat_abs};
 ghost use Rattle.stoichiometry.specs.Substances.{substances, most_net};
 ghost use Rattle.river.specs.Rivers.{most_cells};
 ghost use Rattle.transport.specs.Flow.{passing, left_of, moved_of};
@@ -31,25 +31,14 @@ fn passed(amount: i64, part: u64) -> i64
     part_of(amount as u64, part) as i64
 }
 
-// What leaves each cell.
-pub(crate) fn left_all(amounts: &[i64; AMOUNTS], part: u64) -> [i64; AMOUNTS]
+// What leaves each cell, written over what `left` has.
+pub(crate) fn leave_cells(amounts: &[i64; AMOUNTS], part: u64, left: &mut [i64; AMOUNTS])
     requires { (part ≤ 10000) × AmountsWithin most_net amounts.now }
-    ensures { result ≡ left_of part amounts.now }
+    ensures { left.new ≡ left_of part amounts.now }
 {
-    let mut left = [0; AMOUNTS];
-    let mut k = 0;
-    while k < AMOUNTS {
+    for k in 0..AMOUNTS {
         left[k] = passed(amounts[k], part);
-        k += 1;
     }
-    left
-}
-
-fn less(amount: i64, left: i64) -> i64
-    requires { (nat_abs amount ≤ most_net) × (nat_abs left ≤ most_net) }
-    ensures { result ≡ amount -ℤ left }
-{
-    amount - left
 }
 
 // What left is taken from each amount.
@@ -57,18 +46,9 @@ fn take_left(amounts: &mut [i64; AMOUNTS], left: &[i64; AMOUNTS])
     requires { AmountsWithin most_net amounts.old × AmountsWithin most_net left.now }
     ensures { amounts.new ≡ stayed_of amounts.old left.now }
 {
-    let mut k = 0;
-    while k < AMOUNTS {
-        amounts[k] = less(amounts[k], left[k]);
-        k += 1;
+    for k in 0..AMOUNTS {
+        amounts[k] -= left[k];
     }
-}
-
-fn with(stayed: i64, came: i64) -> i64
-    requires { (nat_abs stayed ≤ 2 * most_net) × (nat_abs came ≤ most_net) }
-    ensures { result ≡ stayed +ℤ came }
-{
-    stayed + came
 }
 
 // What left a cell comes into the next. Nothing comes into the first cell, nor beyond the last.
@@ -77,11 +57,8 @@ fn add_came(cells: usize, amounts: &mut [i64; AMOUNTS], left: &[i64; AMOUNTS])
     requires amounts_within { AmountsWithin (2 * most_net) amounts.old × AmountsWithin most_net left.now }
     ensures { amounts.new ≡ joined_of cells amounts.old left.now }
 {
-    let end = (cells - 1) * SUBSTANCES;
-    let mut k = 0;
-    while k < end {
-        amounts[SUBSTANCES + k] = with(amounts[SUBSTANCES + k], left[k]);
-        k += 1;
+    for k in 0..(cells - 1) * SUBSTANCES {
+        amounts[SUBSTANCES + k] += left[k];
     }
 }
 

@@ -6,8 +6,8 @@ ghost use Rattle.transport.specs.Load.{load_answer};
 ghost use Rattle.transport.specs.Flow.{flow_answer};
 ghost use Rattle.transport.specs.Air.{air_answer};
 
-use crate::air::{figure_wrong, gain_of};
-use crate::flow::{left_all, move_amounts};
+use crate::air::Exchange;
+use crate::flow::{leave_cells, move_amounts};
 use crate::load::{amount_at, set_amount, sum_fits};
 use numeric::in_range;
 use river::{AMOUNTS, River};
@@ -66,18 +66,27 @@ pub fn load_river(mut river: River, cell: u32, substance: u32, added: i64) -> Re
 // A flow of a part. Refuses with 4 (a wrong river) or 6 (a part above 10,000), in this order. There is no test for 8:
 // the amounts after are always in their bounds (proofs/FlowLaws.antt, flow_never_eight).
 #[tactic(auto, unfolding(crate::specs::Flow::flow_answer, crate::specs::Flow::flow_number, river::specs::Rivers::river_wrong, numeric::specs::Check::first_holding))]
-pub fn flow_river(mut river: River, part: u32) -> Result<Flowed, Refusal>
+pub fn flow_river(river: River, part: u32) -> Result<Flowed, Refusal>
     ensures answer { result ≡ flow_answer river part }
 {
-    if !river.fits() {
+    // The river is tested and changed where the answer has it: it is copied once.
+    let mut flowed = Flowed {
+        river,
+        left: [0; AMOUNTS],
+    };
+    if !flowed.river.fits() {
         return Err(Refusal::River);
     }
     if part > Flowed::PART_MOST {
         return Err(Refusal::Conditions);
     }
-    let left = left_all(&river.amounts, part as u64);
-    move_amounts(river.cells as usize, &mut river.amounts, &left);
-    Ok(Flowed { river, left })
+    leave_cells(&flowed.river.amounts, part as u64, &mut flowed.left);
+    move_amounts(
+        flowed.river.cells as usize,
+        &mut flowed.river.amounts,
+        &flowed.left,
+    );
+    Ok(flowed)
 }
 
 // Exchange of O2 between a cell, counted from 1, and the air. Answers the river with the cell's O2 changed, and the
@@ -99,12 +108,17 @@ pub fn air_river(
     if !in_range(1, river.cells, cell) {
         return Err(Refusal::Place);
     }
-    if figure_wrong(constant, seconds, saturation) {
+    let exchange = Exchange {
+        constant,
+        seconds,
+        saturation,
+    };
+    if exchange.is_wrong() {
         return Err(Refusal::Conditions);
     }
     let c = (cell - 1) as usize;
     let before = amount_at(&river.amounts, c, place::O2);
-    let amount = gain_of(constant, seconds, saturation, before);
+    let amount = exchange.gain(before);
     set_amount(&mut river.amounts, c, place::O2, before + amount);
     Ok(Aired { river, amount })
 }

@@ -1,6 +1,6 @@
 -- `air_river` meets its contract: past checks 4 to 6 the O2 is known, and check 8 does not hold (proofs/AirLaws.antt,
 -- air_never_eight). No assumptions.
-use Rattle.std.proofs.Common.{◌-◌, sym, true, ◌∙◌}
+use Rattle.std.proofs.Common.{sym, true, ◌∙◌}
 use borrow.Author.Rules.{sfits_of}
 use lib.Dec.{lit<}
 use mir.Facts.{to_z-of_z}
@@ -18,8 +18,8 @@ amount_at-before-requires-clause-cell c =
     let tests = tested_known c.args.river c.args.cell (place o2) c.if-not-fits.ensures.answer c.if-not-in_range.ensures in
     (tests (lit< tt)).below
 
-pub gain_of-amount-requires-clause-amount : goal.gain_of-amount-requires-clause-amount
-gain_of-amount-requires-clause-amount c =
+pub gain-amount-requires-clause-amount : goal.gain-amount-requires-clause-amount
+gain-amount-requires-clause-amount c =
     let tests = tested_known c.args.river c.args.cell (place o2) c.if-not-fits.ensures.answer c.if-not-in_range.ensures in
     let known = tests (lit< tt) in
     rw (c.amount_at-before.ensures, known.same) known.fits
@@ -31,10 +31,10 @@ overflow_add-before c =
     let right = wrong_tested c.args.river true c.if-not-fits.ensures.answer in
     let after =
     air_never_eight c.args.river c.args.cell c.args.constant c.args.seconds c.args.saturation right
-    (sym c.if-not-in_range.ensures) (sym c.if-figure_wrong.ensures) in
+    (sym c.if-not-in_range.ensures) (sym c.if-is_wrong.ensures) in
     let gain =
-    to_z-of_z {w = w64} (sfits_of c.gain_of-amount.type_inv)
-    ∙ (rw (c.amount_at-before.ensures, known.same) at c.gain_of-amount.ensures) in
+    to_z-of_z {w = w64} (sfits_of c.gain-amount.type_inv)
+    ∙ (rw (c.amount_at-before.ensures, known.same) at c.gain-amount.ensures) in
     rw (c.amount_at-before.ensures, known.same, gain) (fits_machine (place o2) _ (lit< tt) after)
 
 pub set_amount-requires-clause-cell : goal.set_amount-requires-clause-cell
@@ -50,10 +50,10 @@ returns c =
     let right = wrong_tested c.args.river true c.if-not-fits.ensures.answer in
     let after =
     air_never_eight c.args.river c.args.cell c.args.constant c.args.seconds c.args.saturation right
-    (sym c.if-not-in_range.ensures) (sym c.if-figure_wrong.ensures) in
+    (sym c.if-not-in_range.ensures) (sym c.if-is_wrong.ensures) in
     let gain =
-    to_z-of_z {w = w64} (sfits_of c.gain_of-amount.type_inv)
-    ∙ (rw (c.amount_at-before.ensures, known.same) at c.gain_of-amount.ensures) in
+    to_z-of_z {w = w64} (sfits_of c.gain-amount.type_inv)
+    ∙ (rw (c.amount_at-before.ensures, known.same) at c.gain-amount.ensures) in
     record {
       answer =
           rw (
@@ -64,7 +64,7 @@ returns c =
             to_z-of_z (fits_machine (place o2) _ (lit< tt) after),
             ← c.if-not-fits.ensures.answer,
             ← c.if-not-in_range.ensures,
-            ← c.if-figure_wrong.ensures,
+            ← c.if-is_wrong.ensures,
             after,
           );
     }

@@ -10,8 +10,8 @@ use Rattle.transport.proofs.FlowLaws.{flow_never_eight}
 use Rattle.transport.proofs.FlowLists.{river-within, left-within}
 use Rattle.transport.proofs.flow_river.Goals as goal
 
-pub left_all-left-requires : goal.left_all-left-requires
-left_all-left-requires c =
+pub leave_cells-requires : goal.leave_cells-requires
+leave_cells-requires c =
     let right = wrong_tested c.args.river true c.if-not-fits.ensures.answer in
     (c.if-part-gt-PART_MOST.false, river-within c.args.river right)
 
@@ -24,7 +24,7 @@ pub move_amounts-requires-clause-amounts_within : goal.move_amounts-requires-cla
 move_amounts-requires-clause-amounts_within c =
     let within = river-within c.args.river (wrong_tested c.args.river true c.if-not-fits.ensures.answer) in
     let left = left-within c.args.part _ c.args.river.amounts c.if-part-gt-PART_MOST.false within in
-    (within, rw c.left_all-left.ensures left)
+    (within, rw c.leave_cells.ensures left)
 
 pub returns : goal.returns
 unfolding flow_answer flow_number river_wrong first_holding
@@ -34,7 +34,7 @@ returns c =
       answer =
           rw (
             c.move_amounts.ensures,
-            c.left_all-left.ensures,
+            c.leave_cells.ensures,
             ← c.if-not-fits.ensures.answer,
             le-leb _ 10000 c.if-part-gt-PART_MOST.false,
             flow_never_eight c.args.river c.args.part right c.if-part-gt-PART_MOST.false,

@@ -1,8 +1,7 @@
 -- `load_river` meets its contract: past the checks the amount is known, and the sum is in its bounds. No assumptions.
-use Rattle.std.proofs.Common.{◌-◌, ◌<◌, arith, sym}
+use Rattle.std.proofs.Common.{◌-◌, arith, sym}
 use mir.Facts.{to_z-of_z}
 use Rattle.numeric.specs.Check.{first_holding}
-use Rattle.stoichiometry.specs.Substances.{substances}
 use Rattle.river.specs.Rivers.{river_wrong}
 use Rattle.river.proofs.Rivers.{tested_known, fits_machine, substance_bound}
 use Rattle.transport.specs.Load.{load_number, load_answer}

@@ -1,0 +1,69 @@
+-- `Exchange::gain` meets its contract: the bounds of the saturation, the level and the part show that each step fits 64
+-- bits, so that the machine's quotient is the definition's. No assumptions.
+use Rattle.std.proofs.Common.{◌≡◌, ◌≤◌, [], ◌∷◌, ap, sym, ◌∙◌, arith, pos, nat_abs, ℤ, ◌-ℤ◌, ◌*ℤ◌, to_z}
+use lib.Signed.{quot_z}
+use mir.Facts.{to_z_pos, to_z-of_z}
+use mir.Syntax.{w64}
+use Rattle.numeric.proofs.Bounds.{fits_abs}
+use Rattle.numeric.proofs.Expression.{v, #, ◌⊖◌, ◌⊗◌}
+use Rattle.numeric.proofs.Fitting.{Bounded, ◌&◌, all, abs_under}
+use Rattle.numeric.proofs.Machine.{asked, kept, ran}
+use Rattle.numeric.proofs.Quotient.{abs_quot}
+use Rattle.stoichiometry.specs.Limits.{most_saturation}
+use Rattle.stoichiometry.specs.Substances.{o2, grains_per_microgram_o}
+use Rattle.stoichiometry.specs.Levels.{level_of, most_level}
+use Rattle.river.proofs.Levels.{level_bound}
+use Rattle.transport.specs.Air.{gain}
+use Rattle.transport.proofs.AirLaws.{air-figures, exchanged_bound}
+use Rattle.transport.proofs.air.Exchange.gain.Goals as goal
+use Rattle.transport.proofs.air.Exchange.gain.Goals.{After-part}
+
+pub part-requires-clause-constant : goal.part-requires-clause-constant
+part-requires-clause-constant c = (air-figures _ _ _ c.requires.figures).constant
+
+pub part-requires-clause-seconds : goal.part-requires-clause-seconds
+part-requires-clause-seconds c = (air-figures _ _ _ c.requires.figures).time
+
+saturation-is : (c : After-part) → to_z w64 c.args.self.now.saturation ≡ kept (pos c.args.self.now.saturation)
+saturation-is c =
+    let most = (air-figures _ _ _ c.requires.figures).most in
+    to_z_pos w64 (omega arith) ∙ sym (to_z-of_z {w = w64} (fits_abs (pos c.args.self.now.saturation) (omega arith)))
+
+level-is : (c : After-part) → c.oxygen_level.result ≡ pos (level_of o2 c.args.amount)
+level-is c = c.oxygen_level.ensures ∙ ap (λ (z : ℤ). pos (level_of o2 z)) (to_z-of_z c.ranges.amount)
+
+-- The part that is exchanged, the saturation and the level.
+known : (c : After-part)
+    → Bounded (c.part.result ∷ pos c.args.self.now.saturation ∷ c.oxygen_level.result ∷ [])
+    (833333333 ∷ most_saturation ∷ most_level ∷ [])
+known c =
+    let f = air-figures _ _ _ c.requires.figures in
+    let part : nat_abs c.part.result ≤ 833333333 = rw c.part.ensures (exchanged_bound _ _ f.constant f.time) in
+    let level : nat_abs c.oxygen_level.result ≤ most_level =
+    rw (level-is c) (level_bound o2 c.args.amount c.requires.amount) in
+    part & f.most & level & all
+
+-- The difference times the part, in billionths, and the µg that are exchanged.
+abbrev product : After-part → ℤ
+product c = (pos c.args.self.now.saturation -ℤ c.oxygen_level.result) *ℤ c.part.result
+
+moved-known : (c : After-part) → Bounded (quot_z (product c) (pos 1000000000) ∷ []) (870054616 ∷ [])
+moved-known c =
+    let most = abs_under (known c) ((v 1 ⊖ v 2) ⊗ v 0) 870054616318644820 tt in
+    let small : nat_abs (quot_z (product c) (pos 1000000000)) ≤ 870054616 =
+    omega (arith, abs_quot (product c) 1000000000) in
+    small & all
+
+pub overflow_mul-result : goal.overflow_mul-result
+overflow_mul-result c = rw (saturation-is c) (asked (known c) ((v 1 ⊖ v 2) ⊗ v 0) tt)
+
+pub returns : goal.returns
+unfolding gain
+returns c =
+    rw (
+      saturation-is c,
+      ran (known c) ((v 1 ⊖ v 2) ⊗ v 0) tt,
+      ran (moved-known c) (v 0 ⊗ # (pos grains_per_microgram_o)) tt,
+      level-is c,
+      c.part.ensures,
+    )
