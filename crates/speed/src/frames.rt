@@ -13,12 +13,10 @@ pub(crate) fn readings() -> [f32; READINGS] {
 }
 
 fn oxygen_of(reading: f32, turn: u64) -> Oxygen {
-    if turn % 3 == 0 {
-        Oxygen::Mass(reading)
-    } else if turn % 3 == 1 {
-        Oxygen::Percent(reading)
-    } else {
-        Oxygen::Missing
+    match turn % 3 {
+        0 => Oxygen::Mass(reading),
+        1 => Oxygen::Percent(reading),
+        _ => Oxygen::Missing,
     }
 }
 

@@ -1,74 +1,46 @@
 // The rivers that the calls are made on: eight cells with all organisms at work, of which no step below runs dry.
-use river::{AMOUNTS, CARRIES, River};
+ghost use Rattle.std.specs.Prelude.{◌<◌};
+
+use river::River;
+use std::array;
 use stoichiometry::{SUBSTANCES, place};
 
 pub(crate) const RIVERS: usize = 8;
 
-fn negated(x: i64) -> i64 {
-    if x < -River::NET_MOST {
-        return x;
-    }
-    if River::NET_MOST < x {
-        return x;
-    }
-    -x
+// A number that tells place k of river r from other places and rivers.
+fn number_of(r: usize, k: usize) -> u32
+    ensures { result < 8000 }
+{
+    (r % RIVERS * 1000 + k % 1000) as u32
 }
 
-// The amount of the substance at place s, 0 to 17. `more` tells one river and one cell from another.
-fn amount(s: usize, more: u64) -> i64 {
-    let less = more % 10000;
-    if s < place::NH4 || (s >= place::XH && s <= place::XI) {
-        (50000000 + less * 1000) as i64
-    } else if s == place::H_PLUS || s == place::H2O {
-        negated((1000000007 * less) as i64)
-    } else {
-        (100000000000000 + less * 1000003) as i64
+fn amount(r: usize, k: usize) -> i64 {
+    let number = i64::from(number_of(r, k));
+    match k % SUBSTANCES {
+        place::SS | place::SI | place::XH..=place::XI => 50000000 + number * 1000,
+        place::H_PLUS | place::H2O => -1000000007 * number,
+        _ => 100000000000000 + number * 1000003,
     }
 }
 
-fn amounts_of(r: u64) -> [i64; AMOUNTS] {
-    let mut amounts = [0; AMOUNTS];
-    let mut k = 0;
-    while k < AMOUNTS {
-        amounts[k] = amount(k % SUBSTANCES, k as u64 + r % 8 * 1000);
-        k += 1;
-    }
-    amounts
+fn carry(r: usize, k: usize) -> u32 {
+    number_of(r, k) * 7919 % 1000000
 }
 
-fn carries_of(r: u64) -> [u32; CARRIES] {
-    let mut carries = [0; CARRIES];
-    let mut k = 0;
-    while k < CARRIES {
-        carries[k] = ((k as u64 + r % 8 * 1000) * 7919 % 1000000) as u32;
-        k += 1;
-    }
-    carries
-}
-
-fn river_of(r: u64) -> River {
+fn river_of(r: usize) -> River {
     River {
         cells: River::CELLS_MOST as u32,
-        amounts: amounts_of(r),
-        carries: carries_of(r),
+        amounts: array::from_fn(|k| amount(r, k)),
+        carries: array::from_fn(|k| carry(r, k)),
     }
 }
 
 pub(crate) fn rivers() -> [River; RIVERS] {
-    [
-        river_of(0),
-        river_of(1),
-        river_of(2),
-        river_of(3),
-        river_of(4),
-        river_of(5),
-        river_of(6),
-        river_of(7),
-    ]
+    array::from_fn(river_of)
 }
 
 // A load for a turn, of either sign.
 pub(crate) fn load_of(turn: u64) -> i64 {
     let size = (1 + turn % 1000) as i64;
-    if turn % 2 == 0 { size } else { negated(size) }
+    if turn % 2 == 0 { size } else { -size }
 }

@@ -1,6 +1,7 @@
 // The sets and the conditions of the steps: the published set with rate constants at which every process makes whole
 // batches, and with other yields and half-saturations in each set.
 use kinetics::{Conditions, Temperatures};
+use std::array;
 use stoichiometry::{
     AlgaeRates, GrowthRates, HalfSaturations, RateConstants, Refusal, Set, Yields,
 };
@@ -33,33 +34,27 @@ fn rates() -> RateConstants {
     }
 }
 
-fn set_of(i: u32) -> Result<Set, Refusal> {
-    let other = i % 8;
-    let mut set = Set::published(rates(), HalfSaturations::all(200000 + other))?;
-    let yields = Yields {
-        aerobic: 60 + other,
-        nitrate: 50 + other,
-        nitrite: 30 + other,
-        xn1: 13 + other,
-        xn2: 3 + other,
-        death: 62,
-        hydrolysis: 100,
-    };
-    set.yields = yields;
-    Ok(set)
+// The set with other yields and half-saturations, told from another by its number.
+fn set_of(published: Set, i: usize) -> Set {
+    let other = (i % SETS) as u32;
+    Set {
+        yields: Yields {
+            aerobic: 60 + other,
+            nitrate: 50 + other,
+            nitrite: 30 + other,
+            xn1: 13 + other,
+            xn2: 3 + other,
+            death: 62,
+            hydrolysis: 100,
+        },
+        half: HalfSaturations::all(200000 + other),
+        ..published
+    }
 }
 
 pub(crate) fn sets() -> Result<[Set; SETS], Refusal> {
-    Ok([
-        set_of(0)?,
-        set_of(1)?,
-        set_of(2)?,
-        set_of(3)?,
-        set_of(4)?,
-        set_of(5)?,
-        set_of(6)?,
-        set_of(7)?,
-    ])
+    let published = Set::published(rates(), HalfSaturations::all(200000))?;
+    Ok(array::from_fn(|i| set_of(published, i)))
 }
 
 // The conditions of a turn: about a minute, with about half of the light.

@@ -1,11 +1,10 @@
-// An entry of a row against the figure that Table 9 prints for it. Processes and substances are counted from 0.
+// An entry of a row against the figure that Table 9 prints for it. Processes are counted from 1, substances by place.
 ghost use Rattle.std.specs.Prelude.{◌≡◌, ◌≤◌};
-ghost use Rattle.table9.specs.Agreement.{InReach, distance, agrees_with};
+ghost use Rattle.table9.specs.Agreement.{InReach, agrees_with};
 
-use numeric::magnitude;
-use stoichiometry::{ENTRIES, PROCESSES, SUBSTANCES};
+use stoichiometry::{ENTRIES, SUBSTANCES, place};
 
-// A printed figure: its digits as one number, and 10 to the number of its decimals. A blank has the digits 0.
+// A printed figure: its digits as one number, and 10 to the number of its decimals.
 #[derive(Clone, Copy)]
 pub(crate) struct Figure {
     pub negative: bool,
@@ -29,59 +28,51 @@ fn weight(substance: usize) -> u64
     ensures { result ≤ 600000000 }
 {
     match substance {
-        0 | 13 => SS,
-        1 | 14 => SI,
-        2..=4 => 14,
-        5 | 15 => 31,
-        6 => 32,
-        7 => 12,
-        9..=11 => XH,
-        12 => XALG,
-        17 => 28,
+        place::SS | place::XS => SS,
+        place::SI | place::XI => SI,
+        place::NH4 | place::NO2 | place::NO3 => 14,
+        place::HPO4 | place::XP => 31,
+        place::O2 => 32,
+        place::HCO3 => 12,
+        place::XH | place::XN1 | place::XN2 => XH,
+        place::XALG => XALG,
+        place::N2 => 28,
         _ => 1,
     }
 }
 
-// The substance of which a row is per gram: XH, XN1, XN2, XALG, XS, in the last two rows XP.
+// The substance of which a row is per gram.
 fn reference(process: usize) -> usize {
     match process {
-        0..=5 => 9,
-        6 | 7 => 10,
-        8 | 9 => 11,
-        10..=13 => 12,
-        14 => 13,
-        _ => 15,
+        1..=6 => place::XH,
+        7 | 8 => place::XN1,
+        9 | 10 => place::XN2,
+        11..=14 => place::XALG,
+        15 => place::XS,
+        _ => place::XP,
     }
 }
 
-// 0 where there is no such process or substance.
-fn entry(rows: &[i64; ENTRIES], process: usize, substance: usize) -> i64 {
-    if process < PROCESSES {
-        if substance < SUBSTANCES {
-            return rows[process * SUBSTANCES + substance];
-        }
-    }
-    0
+fn entry(rows: &[i64; ENTRIES], process: usize, substance: usize) -> Option<i64> {
+    let row = rows.chunks_exact(SUBSTANCES).nth(process.checked_sub(1)?)?;
+    row.get(substance).copied()
 }
 
-// An entry without its sign, in the unit of `weight`; out of reach where it is larger than any of the published set.
-fn amount(entry: i64, substance: usize) -> u64 {
-    if entry < -30000000000 {
-        return u64::MAX;
-    }
-    if 30000000000 < entry {
-        return u64::MAX;
-    }
-    magnitude(entry) * weight(substance)
-}
+// No entry of the published set is larger.
+const ENTRY_MOST: u64 = 30000000000;
 
-fn difference(a: u64, b: u64) -> u64
-    ensures { result ≡ distance a b }
-{
-    if a < b { b - a } else { a - b }
+// An entry without its sign, in the unit of `weight`; none where it is out of reach.
+fn amount(entry: i64, substance: usize) -> Option<u64> {
+    let size = entry.unsigned_abs();
+    if size <= ENTRY_MOST {
+        Some(size * weight(substance))
+    } else {
+        None
+    }
 }
 
 // Whether a figure agrees with amount / unit, which is below zero where `negative` holds.
+#[tactic(auto, unfolding(crate::specs::Agreement::agrees_with))]
 fn agrees(negative: bool, amount: u64, unit: u64, figure: Figure) -> bool
     requires { InReach amount unit figure }
     ensures { result ≡ agrees_with negative amount unit figure }
@@ -89,27 +80,30 @@ fn agrees(negative: bool, amount: u64, unit: u64, figure: Figure) -> bool
     if negative != figure.negative {
         return false;
     }
-    difference(amount * figure.scale, figure.digits * unit) <= unit / 2
+    (amount * figure.scale).abs_diff(figure.digits * unit) <= unit / 2
 }
 
 // The same of any numbers; out of reach none agree.
 fn agrees_in_reach(negative: bool, amount: u64, unit: u64, figure: Figure) -> bool {
-    if unit < 1 {
-        return false;
+    let small = figure.digits <= 5000000 && figure.scale <= 1000000;
+    if small && amount <= 10000000000000 && 1 <= unit && unit <= 3000000000000 {
+        agrees(negative, amount, unit, figure)
+    } else {
+        false
     }
-    if unit > 3000000000000 {
-        return false;
-    }
-    if amount > 10000000000000 {
-        return false;
-    }
-    if figure.digits > 5000000 {
-        return false;
-    }
-    if figure.scale > 1000000 {
-        return false;
-    }
-    agrees(negative, amount, unit, figure)
+}
+
+fn agrees_with_entry(
+    rows: &[i64; ENTRIES],
+    process: usize,
+    substance: usize,
+    figure: Figure,
+) -> Option<bool> {
+    let change = entry(rows, process, substance)?;
+    let per = reference(process);
+    let unit = amount(entry(rows, process, per)?, per)?;
+    let amount = amount(change, substance)?;
+    Some(agrees_in_reach(change < 0, amount, unit, figure))
 }
 
 // Whether a figure agrees with the entry of its row, or a blank's entry is 0.
@@ -117,13 +111,10 @@ pub(crate) fn is_right(
     rows: &[i64; ENTRIES],
     process: usize,
     substance: usize,
-    figure: Figure,
+    figure: Option<Figure>,
 ) -> bool {
-    let change = entry(rows, process, substance);
-    if figure.digits == 0 {
-        return change == 0;
+    match figure {
+        Some(figure) => agrees_with_entry(rows, process, substance, figure).unwrap_or(false),
+        None => entry(rows, process, substance) == Some(0),
     }
-    let per = reference(process);
-    let unit = amount(entry(rows, process, per), per);
-    agrees_in_reach(change < 0, amount(change, substance), unit, figure)
 }

@@ -1,198 +1,99 @@
-// The text of the table, read byte by byte, and what is counted and written of it.
+// The text of the table, and what is counted and written of it.
 use crate::agreement::{Figure, is_right};
+use std::fmt;
 use std::io::Result;
 use stoichiometry::ENTRIES;
 
-// One more where `holds`. No count of a table reaches a thousand.
-fn counted(n: usize, holds: bool) -> usize {
-    if !holds {
-        return n;
-    }
-    if n < 1000 { n + 1 } else { n }
+// How many there are, and are right.
+#[derive(Clone, Copy, Default)]
+struct Count {
+    all: u32,
+    right: u32,
 }
 
-// How many printed figures there are and agree, how many blanks there are and stand for 0.
-#[derive(Clone, Copy)]
+impl Count {
+    // One more. No count of a table reaches the limit.
+    fn take(&mut self, right: bool) {
+        self.all = self.all.saturating_add(1);
+        self.right = self.right.saturating_add(u32::from(right));
+    }
+}
+
+impl fmt::Display for Count {
+    fn fmt<W: fmt::Write>(&self, f: &mut fmt::Formatter<W>) -> fmt::Result {
+        write!(f, "{} of {}", self.right, self.all)
+    }
+}
+
+// Printed figures, which are right where they agree, and blanks, where they stand for 0.
+#[derive(Clone, Copy, Default)]
 struct Tally {
-    figures: usize,
-    agreeing: usize,
-    blanks: usize,
-    zeros: usize,
+    figures: Count,
+    blanks: Count,
 }
 
 impl Tally {
-    fn new() -> Tally {
-        Tally {
-            figures: 0,
-            agreeing: 0,
-            blanks: 0,
-            zeros: 0,
+    // One more cell.
+    fn take(&mut self, figure: Option<Figure>, right: bool) {
+        match figure {
+            Some(_) => self.figures.take(right),
+            None => self.blanks.take(right),
         }
     }
+}
 
-    // With one more cell.
-    fn with(self, blank: bool, right: bool) -> Tally {
-        Tally {
-            figures: counted(self.figures, !blank),
-            agreeing: counted(self.agreeing, !blank && right),
-            blanks: counted(self.blanks, blank),
-            zeros: counted(self.zeros, blank && right),
-        }
-    }
-
-    fn write(self, rt: &impl Print) -> Result<()> {
-        rt.print(self.agreeing)?;
-        rt.write_all(b" of ")?;
-        rt.print(self.figures)?;
-        rt.write_all(b" printed entries agree, ")?;
-        rt.print(self.zeros)?;
-        rt.write_all(b" of ")?;
-        rt.print(self.blanks)?;
-        rt.write_all(b" blanks are zero\n")
+impl fmt::Display for Tally {
+    fn fmt<W: fmt::Write>(&self, f: &mut fmt::Formatter<W>) -> fmt::Result {
+        write!(f, "{} printed entries agree, ", self.figures)?;
+        write!(f, "{} blanks are zero", self.blanks)
     }
 }
 
-fn write_row(rt: &impl Print, process: usize, line: Tally) -> Result<()> {
-    rt.write_all(b"row ")?;
-    if process < 10 {
-        rt.write_all(b" ")?;
-    }
-    rt.print(process)?;
-    rt.write_all(b": ")?;
-    line.write(rt)
-}
-
-fn write_sums(rt: &impl Print, all: Tally) -> Result<()> {
-    rt.write_all(b"all rows: ")?;
-    all.write(rt)
-}
-
-// From nine digits on a number stays as it is, out of reach of any that agrees.
-fn appended(n: u64, digit: u8) -> u64 {
-    if n < 100000000 {
-        n * 10 + digit as u64
-    } else {
-        n
-    }
-}
-
-// A cell as far as it is read.
-#[derive(Clone, Copy)]
-struct Cell {
-    begun: bool,
-    decimals: bool,
-    figure: Figure,
-}
-
-impl Cell {
-    fn new() -> Cell {
-        Cell {
-            begun: false,
-            decimals: false,
-            figure: Figure {
-                negative: false,
-                digits: 0,
-                scale: 1,
-            },
-        }
-    }
-
-    // With one more byte: a sign, a digit or a point.
-    fn with(self, byte: u8) -> Cell {
-        let mut figure = self.figure;
-        if byte == b'-' {
-            figure.negative = true;
-        }
-        if byte >= b'0' && byte <= b'9' {
-            figure.digits = appended(figure.digits, byte - b'0');
-            if self.decimals {
-                figure.scale = appended(figure.scale, 0);
+// The figure of a cell, with a sign, digits and a point; none of a cell with no digit, which is a blank. A figure with
+// too many digits is out of reach of any entry.
+fn figure_of(cell: &str) -> Option<Figure> {
+    let mut figure = Figure {
+        negative: false,
+        digits: 0,
+        scale: 1,
+    };
+    let mut has_digit = false;
+    let mut has_point = false;
+    for byte in cell.bytes() {
+        match byte {
+            b'-' => figure.negative = true,
+            b'.' => has_point = true,
+            b'0'..=b'9' => {
+                has_digit = true;
+                let tenfold = figure.digits.saturating_mul(10);
+                figure.digits = tenfold.saturating_add(u64::from(byte - b'0'));
+                if has_point {
+                    figure.scale = figure.scale.saturating_mul(10);
+                }
             }
-        }
-        Cell {
-            begun: true,
-            decimals: self.decimals || byte == b'.',
-            figure,
+            _ => {}
         }
     }
+    has_digit.then_some(figure)
 }
 
-// How far the text is read: the line's process from 1 on, 0 where the line begins with no number, as the heading does;
-// the column of the next cell, 0 for the process and from 1 on the substances; the counts of the line and of all lines.
-#[derive(Clone, Copy)]
-struct Reading {
-    process: usize,
-    column: usize,
-    cell: Cell,
-    line: Tally,
-    all: Tally,
-}
-
-impl Reading {
-    fn new() -> Reading {
-        Reading {
-            process: 0,
-            column: 0,
-            cell: Cell::new(),
-            line: Tally::new(),
-            all: Tally::new(),
+// Writes a line for each row of the table and one for all of them. A line that begins with no number, as the heading
+// does, is no row.
+pub(crate) fn compare(rt: &impl Print, text: &str, rows: &[i64; ENTRIES]) -> Result<()> {
+    let mut all = Tally::default();
+    for line in text.lines() {
+        let mut cells = line.split_whitespace();
+        let Some(Ok(process)) = cells.next().map(|cell| cell.parse::<usize>()) else {
+            continue;
+        };
+        let mut row = Tally::default();
+        for (substance, cell) in cells.enumerate() {
+            let figure = figure_of(cell);
+            let right = is_right(rows, process, substance, figure);
+            row.take(figure, right);
+            all.take(figure, right);
         }
+        println!(rt; "row {process:>2}: {row}")?;
     }
-
-    fn cell_ended(self, rows: &[i64; ENTRIES]) -> Reading {
-        let cell = self.cell;
-        if !cell.begun {
-            return self;
-        }
-        let figure = cell.figure;
-        let mut next = self;
-        if self.column == 0 {
-            next.process = figure.digits as usize;
-        } else if self.process > 0 {
-            let blank = figure.digits == 0;
-            let right = is_right(rows, self.process - 1, self.column - 1, figure);
-            let line = self.line;
-            let all = self.all;
-            next.line = line.with(blank, right);
-            next.all = all.with(blank, right);
-        }
-        next.column = counted(self.column, true);
-        next.cell = Cell::new();
-        next
-    }
-
-    fn line_ended(self, rt: &impl Print) -> Result<Reading> {
-        if self.process > 0 {
-            write_row(rt, self.process, self.line)?;
-        }
-        let mut next = self;
-        next.process = 0;
-        next.column = 0;
-        next.line = Tally::new();
-        Ok(next)
-    }
-
-    fn after(self, rt: &impl Print, byte: u8, rows: &[i64; ENTRIES]) -> Result<Reading> {
-        if byte == b'\n' {
-            return self.cell_ended(rows).line_ended(rt);
-        }
-        if byte == b' ' {
-            return Ok(self.cell_ended(rows));
-        }
-        let cell = self.cell;
-        let mut next = self;
-        next.cell = cell.with(byte);
-        Ok(next)
-    }
-}
-
-// Writes a line for each row of the table and one for all of them.
-pub(crate) fn compare(rt: &impl Print, text: &[u8], rows: &[i64; ENTRIES]) -> Result<()> {
-    let mut reading = Reading::new();
-    let mut i = 0;
-    while i < text.len() {
-        reading = reading.after(rt, text[i], rows)?;
-        i += 1;
-    }
-    write_sums(rt, reading.all)
+    println!(rt; "all rows: {all}")
 }
