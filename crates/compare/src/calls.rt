@@ -6,6 +6,8 @@ use crate::set::{Figures, set_of};
 use crate::{frames, pages, records, set};
 use kinetics::{Conditions, Temperatures};
 use river::{Changed, River};
+use rows::Rows;
+use stoichiometry::{ENTRIES, number_of};
 use totals::Totals;
 
 // What a call answered. A call that answers no river hands on the one it got.
@@ -35,16 +37,21 @@ fn changed(answer: Changed) -> Answer {
 
 fn check(figures: Figures) -> Told {
     Told {
-        number: rows::number_of(set_of(figures)),
+        number: number_of(&rows::check(set_of(figures))),
         digest: START,
     }
 }
 
+// Of a refused set, rows of zeros.
 fn rows(figures: Figures) -> Told {
     let answer = rows::rows_of(set_of(figures));
+    let number = number_of(&answer);
+    let rows = answer.unwrap_or(Rows {
+        entries: [0; ENTRIES],
+    });
     Told {
-        number: answer.number,
-        digest: with_rows(START, &answer.entries),
+        number,
+        digest: with_rows(START, &rows.entries),
     }
 }
 
@@ -97,6 +104,16 @@ fn step(line: Line, figures: Figures, river: River) -> Answer {
     changed(step::step_river(set_of(figures), river, conditions(line)))
 }
 
+// What a refused call is told with.
+const NO_TOTALS: Totals = Totals {
+    carbon: 0,
+    hydrogen: 0,
+    oxygen: 0,
+    nitrogen: 0,
+    phosphorus: 0,
+    charge: 0,
+};
+
 fn of_totals(t: Totals) -> u64 {
     let three = with_signed(
         with_signed(with_signed(START, t.carbon), t.hydrogen),
@@ -111,8 +128,8 @@ fn of_totals(t: Totals) -> u64 {
 fn totals(line: Line, figures: Figures, river: River) -> Told {
     let answer = totals::totals_of(set_of(figures), river, line.figure(0));
     Told {
-        number: answer.number,
-        digest: of_totals(answer),
+        number: number_of(&answer),
+        digest: of_totals(answer.unwrap_or(NO_TOTALS)),
     }
 }
 

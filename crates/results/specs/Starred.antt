@@ -13,6 +13,7 @@ use Rattle.stoichiometry.specs.Substances.{organic, ss, xh, xs, nh4, no3, hpo4, 
 use Rattle.stoichiometry.specs.Substances.{substances, Substance, grains_per_microgram_n, grains_per_microgram_p}
 use Rattle.stoichiometry.specs.Parameters.{all_half_saturations, fractions}
 use Rattle.stoichiometry.specs.Parameters.{published_fractions, published_yields, published_inert}
+use Rattle.stoichiometry.specs.Refusals.{number_of}
 use Rattle.stoichiometry.specs.Sets.{set_number, zero_set, published_answer}
 use Rattle.std.specs.Result.{result_unwrap_or}
 use Rattle.rows.specs.declared.Rows.{Rows}
@@ -81,7 +82,7 @@ conditions_for seconds =
 
 -- The rows of the published set, and the entry of a substance in the row of process p, counted from 1.
 abbrev rows : Rows
-rows = rows_answer published
+rows = result_unwrap_or (rows_answer published) (record { entries = [] })
 
 abbrev entry_of : ℕ → Substance → ℤ
 entry_of p s = get_or rows.entries ((p - 1) * substances + place s) (pos 0)
@@ -134,7 +135,7 @@ read = frame_answer frame 10000000
 
 unfoldable pub starred : List Case
 starred =
-    pos rows.number gives pos 0
+    pos (number_of (rows_answer published)) gives pos 0
     ∷ entry_of 1 (organic xh) gives pos 60
     ∷ entry_of 1 (organic ss) gives neg_ℤ (pos 100)
     ∷ entry_of 1 nh4 gives neg_ℤ (pos 26784000)
