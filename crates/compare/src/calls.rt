@@ -109,6 +109,16 @@ fn step(line: &Line, figures: &Figures, river: &mut River) -> Answer {
     )
 }
 
+// What a refused call is told with.
+const NO_TOTALS: Totals = Totals {
+    carbon: 0,
+    hydrogen: 0,
+    oxygen: 0,
+    nitrogen: 0,
+    phosphorus: 0,
+    charge: 0,
+};
+
 fn of_totals(t: Totals) -> Digest {
     Digest::START.with_all(&[
         t.carbon,
@@ -123,8 +133,8 @@ fn of_totals(t: Totals) -> Digest {
 fn totals(line: &Line, figures: &Figures, river: River) -> Answer {
     let answer = totals::totals_of(Set::from(figures), river, line.figure(0));
     Answer {
-        number: answer.number,
-        digest: of_totals(answer),
+        number: number_of(&answer),
+        digest: of_totals(answer.unwrap_or(NO_TOTALS)),
     }
 }
 

@@ -1,12 +1,12 @@
 -- Totals of a cell: a turn of the loop that adds them up; what a cell of a right river holds under an accepted set is
 -- small enough to be added in 64 bits; the number of a call by that of the set. No assumptions.
-use Prim.Native.Nat.{ℕ, ◌<◌, ◌≤◌, ◌+◌, ◌*◌, ◌^◌}
+use Prim.Native.Nat.{ℕ, zero, suc, ◌-◌, ◌<◌, ◌≤◌, ◌+◌, ◌*◌, ◌^◌}
 use mathlib.Core.Bool.{true, false, not, cond}
 use mathlib.Core.List.{List, [], ◌∷◌}
-use mathlib.Core.Path.{◌≡◌, refl, sym, ◌∙◌}
+use mathlib.Core.Path.{◌≡◌, refl, sym, ap, ◌∙◌}
 use native.Mathlib.Omega.{arith}
 use borrow.Author.Tests.{eqb-true}
-use lib.Dec.{eqb}
+use lib.Dec.{eqb, eqb-suc-zero}
 use lib.IntN.{ℤ, pos, nat_abs, ◌+ℤ◌, ◌*ℤ◌}
 use lib.ListN.{get_or}
 use lib.Signed.{mag}
@@ -33,7 +33,12 @@ use Rattle.river.specs.declared.River.{River}
 use Rattle.river.specs.Rivers.{highest_at, river_wrong, cell_exists}
 use Rattle.river.proofs.Bounds.{fits_size}
 use Rattle.river.proofs.Rivers.{amount_fits_at}
-use Rattle.totals.specs.Totals.{totals_number}
+use Rattle.std.specs.Prelude.{Result, Ok, Err}
+use Rattle.stoichiometry.specs.declared.refusals.Refusal.{Refusal}
+use Rattle.stoichiometry.specs.Refusals.{refusal_of}
+use Rattle.rows.specs.Answers.{check_answer}
+use Rattle.totals.specs.declared.Totals.{Totals}
+use Rattle.totals.specs.Totals.{totals_number, totals_in, totals_answer}
 use Rattle.totals.specs.Inner.TotalsCode.{parts, part_of, weights_of, held_by, heaviest, most_held}
 use Rattle.totals.specs.Inner.TotalsCode.{AddableAmounts, AddableTotals}
 
@@ -162,3 +167,43 @@ pub totals_number_lem : (set : Set) (r : River) (cell : ℕ)
     totals_number set r cell ≡ cond (eqb (set_number set) 0) (first_holding others) (set_number set)
 unfolding totals_number set_number
 totals_number_lem set r cell = first_append (set_checks set) _ refl
+
+-- Whether a set was refused; the refusal of a set as that of its totals.
+abbrev is_refused : Result (Unit {0}) Refusal → ℕ
+is_refused (Ok x) = 0
+is_refused (Err refusal) = 1
+
+abbrev with_totals : Totals → Result (Unit {0}) Refusal → Result Totals Refusal
+with_totals totals (Ok x) = Ok totals
+with_totals totals (Err refusal) = Err refusal
+
+-- The answer where the set is refused, and where it is not: by the number of the river and the cell.
+module _ (set : Set) (r : River) (cell : ℕ) where
+  abbrev others : ℕ
+  others = first_holding (4 when river_wrong r ∷ 5 when not (cell_exists r cell) ∷ [])
+
+  refused_by : (n : ℕ) (refusal : Refusal) → set_number set ≡ n → Err refusal ≡ check_answer set
+      → Err refusal ≡ totals_answer set r cell
+  unfolding totals_answer check_answer
+  refused_by zero refusal e a =
+      let accepted : Err refusal ≡ Ok tt = rw e at a in
+      absurd (omega (arith, ap is_refused accepted))
+  refused_by (suc n) refusal e a =
+      let refused : Err refusal ≡ Err (refusal_of (suc n)) = rw (e, eqb-suc-zero n) at a in
+      rw (totals_number_lem set r cell, e, eqb-suc-zero n, eqb-suc-zero n) (ap (with_totals (totals_in set r.amounts (cell - 1))) refused)
+
+  pub set_refused : (refusal : Refusal) → Err refusal ≡ check_answer set → Err refusal ≡ totals_answer set r cell
+  set_refused refusal = refused_by (set_number set) refusal refl
+
+  accepted_by : (n : ℕ) → set_number set ≡ n → Ok tt ≡ check_answer set → set_number set ≡ 0
+  unfolding check_answer
+  accepted_by zero e a = e
+  accepted_by (suc n) e a =
+      let refused : Ok tt ≡ Err (refusal_of (suc n)) = rw (e, eqb-suc-zero n) at a in
+      absurd (omega (arith, ap is_refused refused))
+
+  pub set_accepted : Ok tt ≡ check_answer set → set_number set ≡ 0
+  set_accepted = accepted_by (set_number set) refl
+
+  pub number_beside : set_number set ≡ 0 → totals_number set r cell ≡ others
+  number_beside e = rw (totals_number_lem set r cell, e) refl

@@ -1,8 +1,10 @@
 -- The six totals of a cell under a set (scope, "Flow, air, load, and the book"), by cell_total of
 -- stoichiometry/specs/Totals.antt. No assumptions.
-use Rattle.std.specs.Prelude.{ℕ, ◌-◌, not, cond, [], ◌∷◌, ◌++◌, eqb, ℤ, pos}
+use Rattle.std.specs.Prelude.{ℕ, ◌-◌, not, List, [], ◌∷◌, ◌++◌, ℤ, Result}
 use Rattle.numeric.specs.Check.{first_holding, ◌when◌}
 use Rattle.stoichiometry.specs.declared.Set.{Set}
+use Rattle.stoichiometry.specs.declared.refusals.Refusal.{Refusal}
+use Rattle.stoichiometry.specs.Refusals.{answer_of}
 use Rattle.stoichiometry.specs.Substances.{Total, carbon, hydrogen, oxygen, nitrogen, phosphorus, charge}
 use Rattle.stoichiometry.specs.Totals.{cell_total}
 use Rattle.stoichiometry.specs.Sets.{set_checks}
@@ -14,13 +16,11 @@ unfoldable pub totals_number : Set → River → ℕ → ℕ
 totals_number set r cell =
     first_holding (set_checks set ++ (4 when river_wrong r ∷ 5 when not (cell_exists r cell) ∷ []))
 
--- The six totals of a cell, grains; on refusal the number and zeros.
-unfoldable pub totals_answer : Set → River → ℕ → Totals
-totals_answer set r cell =
-    let n = totals_number set r cell in
-    let total : Total → ℤ = λ t. cond (eqb n 0) (cell_total set t r.amounts (cell - 1)) (pos 0) in
+-- The six totals of a cell, grains.
+abbrev pub totals_in : Set → List ℤ → ℕ → Totals
+totals_in set amounts c =
+    let total : Total → ℤ = λ t. cell_total set t amounts c in
     record {
-      number = n;
       carbon = total carbon;
       hydrogen = total hydrogen;
       oxygen = total oxygen;
@@ -28,3 +28,6 @@ totals_answer set r cell =
       phosphorus = total phosphorus;
       charge = total charge;
     }
+
+unfoldable pub totals_answer : Set → River → ℕ → Result Totals Refusal
+totals_answer set r cell = answer_of (totals_number set r cell) (totals_in set r.amounts (cell - 1))

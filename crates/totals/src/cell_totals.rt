@@ -2,12 +2,12 @@
 ghost use Rattle.std.specs.Prelude.{◌≡◌, ◌+◌, ◌*◌, ◌<◌, ◌≤◌, pos, get_or};
 ghost use Rattle.stoichiometry.specs.Substances.{organic_composition, substances};
 ghost use Rattle.river.specs.Rivers.{most_cells};
-ghost use Rattle.totals.specs.Inner.TotalsCode.{parts, weights_of, weighted_total, totals_at, refused_totals};
+ghost use Rattle.totals.specs.Inner.TotalsCode.{parts, weights_of, weighted_total, totals_at};
 ghost use Rattle.totals.specs.Inner.TotalsCode.{AddableAmounts, AddableTotals};
 
 use crate::Totals;
 use river::AMOUNTS;
-use stoichiometry::{Fractions, SUBSTANCES, Set, refusal};
+use stoichiometry::{Fractions, SUBSTANCES, Set};
 
 // The places of the totals.
 const CARBON: usize = 0;
@@ -99,10 +99,8 @@ fn weighted_total(amounts: &[i64; AMOUNTS], start: usize, weights: &[i64; SUBSTA
     ensures { result ≡ weighted_total amounts.now start weights.now }
 {
     let mut sum = 0;
-    let mut s = 0;
-    while s < SUBSTANCES {
+    for s in 0..SUBSTANCES {
         sum += amounts[start + s] * weights[s];
-        s += 1;
     }
     sum
 }
@@ -124,27 +122,11 @@ pub(crate) fn totals_at(set: Set, amounts: &[i64; AMOUNTS], start: usize) -> Tot
     ensures { result ≡ totals_at set amounts.now start }
 {
     Totals {
-        number: refusal::NONE,
         carbon: total(set, amounts, start, CARBON),
         hydrogen: total(set, amounts, start, HYDROGEN),
         oxygen: total(set, amounts, start, OXYGEN),
         nitrogen: total(set, amounts, start, NITROGEN),
         phosphorus: total(set, amounts, start, PHOSPHORUS),
         charge: total(set, amounts, start, CHARGE),
-    }
-}
-
-// The answer of a refusal.
-pub(crate) fn refused_totals(number: u32) -> Totals
-    ensures { result ≡ refused_totals number }
-{
-    Totals {
-        number,
-        carbon: 0,
-        hydrogen: 0,
-        oxygen: 0,
-        nitrogen: 0,
-        phosphorus: 0,
-        charge: 0,
     }
 }

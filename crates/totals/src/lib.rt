@@ -4,18 +4,17 @@
 ghost use Rattle.std.specs.Prelude.{◌≡◌};
 ghost use Rattle.totals.specs.Totals.{totals_answer};
 
-use crate::cell_totals::{refused_totals, totals_at};
+use crate::cell_totals::totals_at;
 use numeric::in_range;
 use river::River;
-use rows::number_of;
-use stoichiometry::{SUBSTANCES, Set, refusal};
+use rows::check;
+use stoichiometry::{Refusal, SUBSTANCES, Set};
 
 mod cell_totals;
 
-// The six totals of one cell, grains; on refusal the number and zeros.
+// The six totals of one cell, grains.
 #[derive(Clone, Copy)]
 pub struct Totals {
-    pub number: u32,
     pub carbon: i64,
     pub hydrogen: i64,
     pub oxygen: i64,
@@ -25,19 +24,16 @@ pub struct Totals {
 }
 
 // The six totals of a cell, 1 to the number of cells, under a set. Refuses with 1, 2, 3, 4 and 5.
-pub fn totals_of(set: Set, river: River, cell: u32) -> Totals
+pub fn totals_of(set: Set, river: River, cell: u32) -> Result<Totals, Refusal>
     ensures answer { result ≡ totals_answer set river cell }
 {
-    let number = number_of(set);
-    if number != refusal::NONE {
-        return refused_totals(number);
-    }
+    check(set)?;
     if !river.fits() {
-        return refused_totals(refusal::RIVER);
+        return Err(Refusal::River);
     }
-    if in_range(1, river.cells, cell) {
-        let cell_start = (cell - 1) as usize * SUBSTANCES;
-        return totals_at(set, &river.amounts, cell_start);
+    if !in_range(1, river.cells, cell) {
+        return Err(Refusal::Place);
     }
-    refused_totals(refusal::PLACE)
+    let cell_start = (cell - 1) as usize * SUBSTANCES;
+    Ok(totals_at(set, &river.amounts, cell_start))
 }

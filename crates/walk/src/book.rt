@@ -10,8 +10,7 @@ const MOST: i64 = 4000000000000000000;
 // The cells of the walk.
 pub(crate) const BOOK: usize = 4;
 
-const NONE: Totals = Totals {
-    number: 0,
+pub(crate) const NONE: Totals = Totals {
     carbon: 0,
     hydrogen: 0,
     oxygen: 0,
@@ -53,7 +52,6 @@ fn minus(a: i64) -> i64 {
 
 fn added(a: Totals, b: Totals) -> Totals {
     Totals {
-        number: 0,
         carbon: sum(a.carbon, b.carbon),
         hydrogen: sum(a.hydrogen, b.hydrogen),
         oxygen: sum(a.oxygen, b.oxygen),
@@ -65,7 +63,6 @@ fn added(a: Totals, b: Totals) -> Totals {
 
 fn negated(a: Totals) -> Totals {
     Totals {
-        number: 0,
         carbon: minus(a.carbon),
         hydrogen: minus(a.hydrogen),
         oxygen: minus(a.oxygen),
@@ -82,7 +79,7 @@ fn contents(set: Set, amounts: [i64; AMOUNTS], cell: u32) -> Totals {
         amounts,
         carries: [0; CARRIES],
     };
-    totals_of(set, held, cell)
+    totals_of(set, held, cell).unwrap_or(NONE)
 }
 
 // What a number, not negative, of a substance contains; the substance is counted from 1.

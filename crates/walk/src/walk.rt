@@ -1,5 +1,5 @@
 // The river of the walk with its book, and the calls on it.
-use crate::book::{BOOK, booked, empty, with_flow, with_number};
+use crate::book::{BOOK, NONE, booked, empty, with_flow, with_number};
 use crate::calls::O2;
 use crate::set::published_set;
 use crate::write::{write_number, write_totals};
@@ -128,7 +128,7 @@ impl Walk {
         let river = self.river;
         let book = self.book;
         rt.write_all(b"holds ")?;
-        write_totals(rt, cell, totals_of(set, river, cell))?;
+        write_totals(rt, cell, totals_of(set, river, cell).unwrap_or(NONE))?;
         rt.write_all(b"book  ")?;
         write_totals(rt, cell, booked(book, cell))
     }

@@ -32,7 +32,6 @@ unfoldable pub totals_at : Set → List ℤ → ℕ → Totals
 totals_at set amounts start =
     let total : ℕ → ℤ = λ t. weighted_total amounts start (weights_of set t) in
     record {
-      number = 0;
       carbon = total 0;
       hydrogen = total 1;
       oxygen = total 2;
@@ -40,12 +39,6 @@ totals_at set amounts start =
       phosphorus = total 4;
       charge = total 5;
     }
-
--- The answer of a refusal.
-abbrev pub refused_totals : ℕ → Totals
-refused_totals n =
-    let z = pos 0 in
-    record { number = n; carbon = z; hydrogen = z; oxygen = z; nitrogen = z; phosphorus = z; charge = z }
 
 -- The most that one of a substance holds of any total; of an organic 312,480 × 1,000.
 abbrev pub heaviest : Substance → ℕ

@@ -19,7 +19,6 @@ returns c =
     let of : ℕ → ℤ = λ t. weighted_total a.amounts.now a.start (weights_of a.set t) in
     λ i.
     record {
-      number = 0;
       carbon = result_is (of 0) after1.total.ensures after1.total.type_inv i;
       hydrogen = result_is (of 1) after2.total-2.ensures after2.total-2.type_inv i;
       oxygen = result_is (of 2) after3.total-3.ensures after3.total-3.type_inv i;

@@ -1,0 +1,75 @@
+-- `totals_of` meets its contract: each return is a case of the number, by that of the set. No assumptions.
+use Rattle.std.proofs.Common.{◌≡◌, ◌∙◌, refl, sym, ap, arith, ℕ, Result, Ok, Bool, true, false}
+use mathlib.Core.Bool.{not}
+use Rattle.std.proofs.lemmas.Result.{err_from_is_err_and}
+use Rattle.numeric.specs.Check.{first_holding}
+use Rattle.stoichiometry.specs.Substances.{held_at, contents}
+use Rattle.stoichiometry.specs.declared.Set.{Set}
+use Rattle.stoichiometry.specs.declared.refusals.Refusal.{Refusal}
+use Rattle.stoichiometry.specs.Sets.{set_number}
+use Rattle.rows.specs.Answers.{check_answer}
+use Rattle.stoichiometry.specs.Totals.{cell_total}
+use Rattle.stoichiometry.proofs.SetNumber.{accepted-passes}
+use Rattle.river.specs.declared.River.{River}
+use Rattle.river.specs.Rivers.{river_fits, river_wrong, cell_exists}
+use Rattle.river.proofs.Rivers.{wrong_tested, river-cells, cell_bound}
+use Rattle.totals.specs.Totals.{totals_answer}
+use Rattle.totals.specs.Inner.TotalsCode.{weights_of, held_by, weighted_total, totals_at}
+use Rattle.totals.proofs.TotalsLaws.{cell_addable, set_refused, set_accepted, number_beside}
+use Rattle.totals.proofs.totals_of.Goals as goal
+
+-- A river by the test of it.
+tested : (r : River) (b c : Bool) → b ≡ river_fits r.cells r.amounts r.carries → b ≡ c → river_wrong r ≡ not c
+tested r b c e is = wrong_tested r b e ∙ ap not is
+
+-- A set that passes its checks has the number 0.
+accepted : (set : Set) (r : River) (cell : ℕ) (checked : Result (Unit {0}) Refusal) → checked ≡ check_answer set → checked ≡ Ok tt
+    → set_number set ≡ 0
+accepted set r cell checked answered is = set_accepted set r cell (sym is ∙ answered)
+
+-- Refused by 1, 2 or 3.
+pub returns-in_err-check : goal.returns-in_err-check
+returns-in_err-check c =
+    let a = c.args in
+    let refused = err_from_is_err_and c.from_residual.result c.from_residual.ensures.1 in
+    record { answer = rw (refused.1, refused.2) (set_refused a.set a.river a.cell _ (sym c.in_err-check.was ∙ c.check.ensures.answer)) }
+
+-- By 4.
+pub returns-then-not-fits : goal.returns-then-not-fits
+unfolding totals_answer first_holding
+returns-then-not-fits c =
+    let a = c.args in
+    let number = number_beside a.set a.river a.cell (accepted a.set a.river a.cell c.check.result c.check.ensures.answer c.in_ok-check.was) in
+    record { answer = rw (number, tested a.river _ _ c.fits.ensures.answer c.if-not-fits.true) refl }
+
+-- By 5.
+pub returns-then-not-in_range : goal.returns-then-not-in_range
+unfolding totals_answer first_holding
+returns-then-not-in_range c =
+    let a = c.args in
+    let number = number_beside a.set a.river a.cell (accepted a.set a.river a.cell c.check.result c.check.ensures.answer c.in_ok-check.was) in
+    let right = tested a.river _ _ c.fits.ensures.answer c.if-not-fits.false in
+    let none : cell_exists a.river a.cell ≡ false = sym c.in_range.ensures ∙ c.if-not-in_range.true in
+    record { answer = rw (number, right, none) refl }
+
+pub totals_at-requires : goal.totals_at-requires
+totals_at-requires c =
+    let a = c.args in
+    let number = accepted a.set a.river a.cell c.check.result c.check.ensures.answer c.in_ok-check.was in
+    let right = tested a.river _ _ c.fits.ensures.answer c.if-not-fits.false in
+    let exists : cell_exists a.river a.cell ≡ true = sym c.in_range.ensures ∙ c.if-not-in_range.false in
+    let cells = river-cells a.river right in
+    let bound = cell_bound a.river a.cell exists in
+    record {
+      cell_in_river = omega arith;
+      addable_totals = cell_addable a.set a.river (accepted-passes a.set number).0 right _ (omega arith);
+    }
+
+pub returns : goal.returns
+unfolding totals_answer first_holding totals_at weighted_total weights_of held_by cell_total contents held_at
+returns c =
+    let a = c.args in
+    let number = number_beside a.set a.river a.cell (accepted a.set a.river a.cell c.check.result c.check.ensures.answer c.in_ok-check.was) in
+    let right = tested a.river _ _ c.fits.ensures.answer c.if-not-fits.false in
+    let exists : cell_exists a.river a.cell ≡ true = sym c.in_range.ensures ∙ c.if-not-in_range.false in
+    record { answer = ap Ok c.totals_at.ensures ∙ rw (number, right, exists) refl }
