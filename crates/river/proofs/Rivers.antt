@@ -1,6 +1,6 @@
 -- Check 4: `amounts_fit` and `carries_fit` by the parts that the code tests, and as facts of each amount and carry, both
 -- ways; then what is known of a river of which check 4 does not hold, and when it does not. No assumptions.
-use Prim.Native.Nat.{ℕ, ◌<◌, ◌≤◌, ◌+◌, ◌-◌, ◌*◌, ◌/◌, ◌%◌}
+use Prim.Native.Nat.{ℕ, ◌<◌, ◌≤◌, ◌+◌, ◌-◌, ◌*◌, ◌%◌}
 use mathlib.Core.Bool.{not, Bool, true, false, ◌&&◌}
 use mathlib.Core.List.{List}
 use mathlib.Core.Path.{◌≡◌, refl, sym, ap, ◌∙◌}

@@ -24,6 +24,7 @@ fn is_net_change(s: usize) -> bool
 }
 
 // The least of the substance at place s, and its most.
+#[tactic(auto, using(crate::proofs::Bounds::lowest_kind))]
 fn lowest(s: usize) -> i64
     requires { s < substances }
     ensures { result ≡ lowest_at s }
@@ -35,6 +36,7 @@ fn lowest(s: usize) -> i64
     }
 }
 
+#[tactic(auto, using(crate::proofs::Bounds::highest_kind))]
 fn highest(s: usize) -> i64
     requires { s < substances }
     ensures { result ≡ highest_at s }
@@ -49,6 +51,7 @@ fn highest(s: usize) -> i64
 }
 
 // An amount x of the substance at place s is in its bounds.
+#[tactic(auto, unfolding(crate::specs::Rivers::amount_fits))]
 pub(crate) fn amount_fits(s: usize, x: i64) -> bool
     requires { s < substances }
     ensures { result ≡ amount_fits s x }

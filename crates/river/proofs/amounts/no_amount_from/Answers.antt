@@ -1,7 +1,6 @@
 -- `amounts::no_amount_from` meets its contract: the first amount that is not 0 decides. No assumptions.
-use Rattle.std.proofs.Common.{rules, ◌≡◌, ◌∙◌, sym, arith, get_or, pos, nat_abs, ◌+◌}
+use Rattle.std.proofs.Common.{rules, ◌∙◌, sym, arith, get_or, pos, ◌+◌}
 use borrow.Author.Tests.{eq-eqb, ne_eqb}
-use lib.Dec.{eqb}
 use mir.Syntax.{w64}
 use mir.Val.{SFits}
 use Rattle.numeric.proofs.CheckLaws.{every-none, every_more, every_fails}

@@ -1,6 +1,6 @@
 -- `carries::carries_fit` meets its contract: the definition by parts, the second by the carries from its start on.
 -- No assumptions.
-use Rattle.std.proofs.Common.{ℕ, rules, sym, ap, ◌∙◌, drop, take, get_or, List, length, arith, ◌≡◌, ◌*◌, ◌-◌, ◌+◌, ◌<◌, Bool, true}
+use Rattle.std.proofs.Common.{ℕ, rules, sym, ap, ◌∙◌, drop, take, get_or, List, length, ◌≡◌, ◌*◌, ◌-◌, ◌+◌, ◌<◌, Bool, true}
 use Rattle.std.specs.Prelude.{IsTrue, EachIndex, ◌↔◌}
 use borrow.Author.Tests.{eq-eqb, eqb-true}
 use lib.Seq.{get_or-take, get_or-drop}

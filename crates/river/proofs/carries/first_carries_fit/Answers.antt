@@ -1,5 +1,5 @@
 -- `carries::first_carries_fit` meets its contract: a carry passed is one of the first. No assumptions.
-use Rattle.std.proofs.Common.{◌<◌, sym, ap, ◌∙◌, arith, ◌&&◌, get_or}
+use Rattle.std.proofs.Common.{sym, ap, ◌∙◌, arith, ◌&&◌, get_or}
 use lib.Dec.{leb}
 use lib.Seq.{get_or-take}
 use Rattle.numeric.proofs.CheckLaws.{every-none, every-next}
