@@ -1,19 +1,18 @@
 -- What `River::fresh` answers (specs/Rivers.antt): a river of zeros for 1 to 8 cells, and for no other number; and that
 -- check 4 does not hold of such a river. No assumptions.
-use Prim.Native.Nat.{ℕ, ◌≤◌, ◌+◌, ◌*◌, ◌%◌}
-use mathlib.Core.Bool.{Bool, true, false, not}
-use mathlib.Core.List.{[]}
+use Prim.Native.Nat.{ℕ, ◌≤◌, ◌*◌, ◌%◌}
+use mathlib.Core.Bool.{Bool, true, false}
 use mathlib.Core.Path.{◌≡◌, refl, sym, ap, ◌∙◌}
 use native.Mathlib.Omega.{arith}
-use borrow.Author.Tests.{not-false, le-leb}
-use lib.Dec.{lit<, lit≤}
+use borrow.Author.Tests.{le-leb}
+use lib.Dec.{lit≤}
 use lib.IntN.{pos}
 use lib.ListN.{get_or}
 use Rattle.std.specs.Prelude.{Ok, Err}
 use Rattle.stoichiometry.specs.Refusals.{number_of}
 use Rattle.stoichiometry.specs.declared.refusals.Refusal.TheVariants.{River as RiverWrong}
 use Rattle.numeric.specs.Check.{first_holding}
-use Rattle.numeric.proofs.CheckLaws.{leb-within, first_zero}
+use Rattle.numeric.proofs.CheckLaws.{leb-within}
 use Rattle.numeric.proofs.Filling.{replicate_at}
 use Rattle.stoichiometry.specs.Substances.{substances}
 use Rattle.stoichiometry.specs.Rows.{processes}

@@ -1,9 +1,9 @@
 -- Check 4: `amounts_fit` and `carries_fit` by the parts that the code tests, and as facts of each amount and carry, both
 -- ways; then what is known of a river of which check 4 does not hold, and when it does not. No assumptions.
-use Prim.Native.Nat.{ℕ, ◌<◌, ◌≤◌, ◌+◌, ◌-◌, ◌*◌, ◌/◌, ◌%◌}
+use Prim.Native.Nat.{ℕ, ◌<◌, ◌≤◌, ◌+◌, ◌-◌, ◌*◌, ◌%◌}
 use mathlib.Core.Bool.{not, Bool, true, false, ◌&&◌}
 use mathlib.Core.List.{List}
-use mathlib.Core.Path.{◌≡◌, sym, ap, ◌∙◌}
+use mathlib.Core.Path.{◌≡◌, refl, sym, ap, ◌∙◌}
 use native.Mathlib.Decide.{dec_lt}
 use native.Mathlib.Omega.{arith}
 use borrow.Author.Tests.{leb-true, eqb-true, not-false, le-leb, eq-eqb}
@@ -16,7 +16,7 @@ use mir.Syntax.{w64}
 use mir.Val.{SFits}
 use Rattle.numeric.specs.Check.{every}
 use Rattle.numeric.proofs.Bounds.{abs_zero, fits_abs}
-use Rattle.numeric.proofs.CheckLaws.{and_left, and_right, leb-within, every_eq, every-rows}
+use Rattle.numeric.proofs.CheckLaws.{and_left, and_right, leb-within, every_at, every_all, every_eq, every-rows}
 use Rattle.numeric.proofs.CheckLaws.{row_in, every_split, split_at, split_all}
 use Rattle.numeric.proofs.Machine.{kept}
 use Rattle.stoichiometry.specs.Substances.{substances, most_net}
@@ -37,6 +37,16 @@ AmountPlaced n amounts k =
 abbrev pub CarryPlaced : ℕ → List ℕ → ℕ → Type 0
 CarryPlaced n carries k =
     (k < n * processes → get_or carries k 0 ≤ most_carry) × (n * processes ≤ k → get_or carries k 0 ≡ 0)
+
+-- An answer that says whether every test below n is passed.
+pub every_decided : (b : Bool) (n : ℕ) (p : ℕ → Bool) → (b ≡ true → (k : ℕ) → k < n → p k ≡ true)
+    → (((k : ℕ) → k < n → p k ≡ true) → b ≡ true) → b ≡ every n p
+every_decided true n p passed all = sym (every_all n p (passed refl))
+every_decided false n p passed all = by_test (every n p) refl
+  where
+    by_test : (e : Bool) → every n p ≡ e → false ≡ e
+    by_test true e = all (λ k h. every_at n k p e h)
+    by_test false e = refl
 
 -- Amounts: the definition's tests of amount k, in a cell and beyond the last.
 module _ (n : ℕ) (amounts : List ℤ) where

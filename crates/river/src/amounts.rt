@@ -24,6 +24,7 @@ fn is_net_change(s: usize) -> bool
 }
 
 // The least of the substance at place s, and its most.
+#[tactic(auto, using(crate::proofs::Bounds::lowest_kind))]
 fn lowest(s: usize) -> i64
     requires { s < substances }
     ensures { result ≡ lowest_at s }
@@ -35,6 +36,7 @@ fn lowest(s: usize) -> i64
     }
 }
 
+#[tactic(auto, using(crate::proofs::Bounds::highest_kind))]
 fn highest(s: usize) -> i64
     requires { s < substances }
     ensures { result ≡ highest_at s }
@@ -49,6 +51,7 @@ fn highest(s: usize) -> i64
 }
 
 // An amount x of the substance at place s is in its bounds.
+#[tactic(auto, unfolding(crate::specs::Rivers::amount_fits))]
 pub(crate) fn amount_fits(s: usize, x: i64) -> bool
     requires { s < substances }
     ensures { result ≡ amount_fits s x }
@@ -63,11 +66,8 @@ fn each_amount_fits(amounts: &[i64; AMOUNTS], start: usize, first: usize, end: u
     ensures fit { result ≡ true → RunFits amounts.now start first end }
     ensures other { result ≡ false → RunFits amounts.now start first end → ⊥ }
 {
-    let mut s = first;
-    while s < end {
-        if amount_fits(s, amounts[start + s]) {
-            s += 1;
-        } else {
+    for s in first..end {
+        if !amount_fits(s, amounts[start + s]) {
             return false;
         }
     }
@@ -80,10 +80,8 @@ fn joined(amounts: &[i64; AMOUNTS], start: usize, count: usize) -> i64
     ensures { CoversAmounts amounts.now start count result }
 {
     let mut bits = 0;
-    let mut i = 0;
-    while i < count {
-        bits = bits | amounts[start + i];
-        i += 1;
+    for i in 0..count {
+        bits |= amounts[start + i];
     }
     bits
 }
@@ -100,23 +98,16 @@ fn run_fits(amounts: &[i64; AMOUNTS], start: usize, first: usize, end: usize) ->
 
 // True only where the amounts of the cell that begins at `start` are in their bounds, by few tests: of SS and SI, of
 // NH4 to HCO3, of H+, of XH to XI, and of XP, H2O and N2. False tells nothing.
+#[tactic(auto, unfolding(numeric::specs::Check::every, crate::specs::Rivers::lowest_at, crate::specs::Rivers::highest_at))]
 fn runs_fit(amounts: &[i64; AMOUNTS], start: usize) -> bool
     requires { start + substances ≤ most_cells * substances }
     ensures { result ≡ true → RunFits amounts.now start 0 substances }
 {
-    if !run_fits(amounts, start, place::SS, place::NH4) {
-        return false;
-    }
-    if !run_fits(amounts, start, place::NH4, place::H_PLUS) {
-        return false;
-    }
-    if !each_amount_fits(amounts, start, place::H_PLUS, place::XH) {
-        return false;
-    }
-    if !run_fits(amounts, start, place::XH, place::XP) {
-        return false;
-    }
-    each_amount_fits(amounts, start, place::XP, SUBSTANCES)
+    run_fits(amounts, start, place::SS, place::NH4)
+        && run_fits(amounts, start, place::NH4, place::H_PLUS)
+        && each_amount_fits(amounts, start, place::H_PLUS, place::XH)
+        && run_fits(amounts, start, place::XH, place::XP)
+        && each_amount_fits(amounts, start, place::XP, SUBSTANCES)
 }
 
 // The amounts of the cell that begins at `start` are in their bounds. Nearly every cell passes the few tests; where one
@@ -125,10 +116,7 @@ fn cell_fits(amounts: &[i64; AMOUNTS], start: usize) -> bool
     requires { start + substances ≤ most_cells * substances }
     ensures { result ≡ cell_fits amounts.now start }
 {
-    if runs_fit(amounts, start) {
-        return true;
-    }
-    each_amount_fits(amounts, start, 0, SUBSTANCES)
+    runs_fit(amounts, start) || each_amount_fits(amounts, start, 0, SUBSTANCES)
 }
 
 // The amounts of the first n cells are in their bounds.
@@ -136,28 +124,22 @@ fn first_cells_fit(n: usize, amounts: &[i64; AMOUNTS]) -> bool
     requires { n ≤ most_cells }
     ensures { result ≡ first_cells_fit n amounts.now }
 {
-    let mut c = 0;
-    while c < n {
-        if cell_fits(amounts, c * SUBSTANCES) {
-            c += 1;
-        } else {
+    for c in 0..n {
+        if !cell_fits(amounts, c * SUBSTANCES) {
             return false;
         }
     }
     true
 }
 
-// The amounts from `start` on are zeros.
+// The amounts from `start` on are zeros. With `iter().all(..)` the proof did not close: of an item that is not indexed
+// the check does not know that it fits 64 bits.
 fn no_amount_from(start: usize, amounts: &[i64; AMOUNTS]) -> bool
     requires { start ≤ most_cells * substances }
     ensures { result ≡ no_amount_from start amounts.now }
 {
-    let count = AMOUNTS - start;
-    let mut i = 0;
-    while i < count {
-        if amounts[start + i] == 0 {
-            i += 1;
-        } else {
+    for i in 0..AMOUNTS - start {
+        if amounts[start + i] != 0 {
             return false;
         }
     }
@@ -169,9 +151,5 @@ pub(crate) fn amounts_fit(n: usize, amounts: &[i64; AMOUNTS]) -> bool
     requires { n ≤ most_cells }
     ensures { result ≡ amounts_fit n amounts.now }
 {
-    if first_cells_fit(n, amounts) {
-        no_amount_from(n * SUBSTANCES, amounts)
-    } else {
-        false
-    }
+    first_cells_fit(n, amounts) && no_amount_from(n * SUBSTANCES, amounts)
 }

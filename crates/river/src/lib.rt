@@ -97,6 +97,7 @@ impl Letter {
 
 // An amount of the substance at a place, counted from 0, is in its bounds. From place 18 on, where there is none, only
 // 0 is.
+#[tactic(auto, using(crate::proofs::Bounds::none_tested))]
 pub fn amount_fits(place: usize, amount: i64) -> bool
     ensures answer { result ≡ amount_fits place amount }
 {
@@ -108,6 +109,7 @@ pub fn amount_fits(place: usize, amount: i64) -> bool
 }
 
 // The amounts of a river's cells are in their bounds, all others are 0. A number of cells above 8 is taken for 8.
+#[tactic(auto, using(crate::proofs::Rivers::amounts_beyond))]
 pub fn amounts_fit(cells: u32, amounts: &[i64; AMOUNTS]) -> bool
     ensures answer { result ≡ amounts_fit cells amounts.now }
 {
