@@ -1,12 +1,13 @@
 -- The published set (specs/Parameters.antt) is accepted with all rate constants and half-saturations that are in their
 -- ranges: its fractions, yields and rows do not depend on them. So `Set::published` refuses with 2 or answers an
 -- accepted set. No assumptions.
-use mathlib.Core.Bool.{Bool, true, false}
+use mathlib.Core.Bool.{true, false}
 use mathlib.Core.Logic.{◌⊎◌, inl, inr, ⊎_elim}
 use mathlib.Core.Path.{◌≡◌, refl, sym, ap, ◌∙◌, transport}
 use native.Mathlib.Omega.{arith}
 use Rattle.std.specs.Prelude.{Ok, Err}
 use Rattle.std.specs.Result.{result_unwrap_or}
+use Rattle.std.proofs.lemmas.Bool.{cases_Bool}
 use Rattle.stoichiometry.specs.Refusals.{number_of}
 use Rattle.numeric.specs.Check.{every, all_of, first_holding}
 use Rattle.stoichiometry.specs.declared.HalfSaturations.{HalfSaturations}
@@ -18,10 +19,6 @@ use Rattle.stoichiometry.specs.Parameters.{figures_wrong, published_set}
 use Rattle.stoichiometry.specs.Rows.{entry, oxygen_change, row, processes_of, process_at, row_entry}
 use Rattle.stoichiometry.specs.Sets.{Accepted, rows_wrong, published_answer}
 use Rattle.stoichiometry.proofs.SetNumber.{number_zero}
-
-either : (b : Bool) → (b ≡ true) ⊎ (b ≡ false)
-either true = inl refl
-either false = inr refl
 
 module _ (k : RateConstants) (h : HalfSaturations) where
   fractions-right : fractions_wrong (published_set k h) ≡ false
@@ -56,7 +53,7 @@ module _ (k : RateConstants) (h : HalfSaturations) where
       ⊎_elim
       (λ e. inr (in_range_lem e, published-accepted e))
       (λ e. inl (out_of_range e))
-      (either (constants_fit k h))
+      (cases_Bool (constants_fit k h))
 
   -- So what is not refused is an accepted set.
   pub published_zero : (set : Set) → published_answer k h ≡ Ok set → Accepted set

@@ -1,6 +1,5 @@
 // The places of the substances in their order, counted from 0: where an amount of a cell, or an entry of a row, stands.
 // The number of a substance, as `transport::load_river` takes it, is one more.
-// Places index flat arrays, so they are numbers: an enum would be cast at each use.
 pub const SS: usize = 0;
 
 pub const SI: usize = 1;
