@@ -1,6 +1,7 @@
 -- `step::step_river` meets its contract: each test is a check of the definition, in its order (proofs/StepNumber.antt).
 -- No assumptions.
 use mathlib.Core.Bool.{Bool, true, false, not}
+use borrow.Author.Rules.{rules}
 use Rattle.std.proofs.Common.{◌≡◌, refl, sym, ap, ◌∙◌, is_ok, Ok, Err, Result, if◌then◌else◌}
 use Rattle.kinetics.proofs.ConditionLaws.{conditions_fit}
 use Rattle.river.proofs.Rivers.{wrong_tested}
@@ -80,7 +81,8 @@ step_cells-requires c =
 pub returns-then-not-fit : goal.returns-then-not-fit
 returns-then-not-fit c =
     let a = c.args in
-    let holds = seven _ _ _ c.step_cells.ensures.batches c.is_ok-fit.ensures.value ∙ ap not c.if-not-fit.true in
+    let refused : c.is_ok-fit.result ≡ false = search rules in
+    let holds = seven _ _ _ c.step_cells.ensures.batches c.is_ok-fit.ensures.value ∙ ap not refused in
     record {
       answer = c.answered-then-not-fit.ensures ∙ sym (batches_refused a.set a.river a.conditions (passed (search)) holds);
     }
