@@ -15,7 +15,8 @@ use stoichiometry::place::{
 };
 use stoichiometry::{ENTRIES, PROCESSES, SUBSTANCES};
 
-// What the amounts after are made of: the amounts before, the whole batches and the rows of all cells.
+// What the amounts after are made of: the amounts before, the whole batches and the rows of all cells. The number of a
+// cell is passed beside them: with it in a struct each list would stand behind two references.
 #[derive(Clone, Copy)]
 pub(crate) struct Terms<'a> {
     pub amounts: &'a [i64; AMOUNTS],

@@ -11,6 +11,7 @@ use rows::rows_of;
 use stoichiometry::{Refusal, Set};
 
 mod apply;
+mod cell;
 mod cells;
 mod factors;
 mod levels;

@@ -18,8 +18,9 @@ loop-c-init c =
       left = rw c.requires.2 (rows_none most_cells processes _ 0 _);
     }
 
-pub cell_extents-extents-requires : goal.cell_extents-extents-requires
-cell_extents-extents-requires c = cell_fits_lem c.args.river.now c.requires.0 c.loop-c.c c.loop-c-test.true
+pub invariant_of-cell : goal.invariant_of-cell
+invariant_of-cell c =
+    record { fits = cell_fits_lem c.args.river.now c.requires.0 c.loop-c.c c.loop-c-test.true }
 
 pub split-requires : goal.split-requires
 split-requires c =

@@ -4,7 +4,7 @@ use Rattle.stoichiometry.specs.Levels.{level_of, most_level}
 use Rattle.stoichiometry.specs.Substances.{grains_per_microgram_o, grains_per_microgram_n, grains_per_microgram_p}
 use Rattle.stoichiometry.specs.Substances.{organic, ss, nh4, no2, no3, hpo4, o2, xh, xn1, xn2, xalg, xs, xp}
 use Rattle.step.proofs.ExtentBounds.{cell-level_bound}
-use Rattle.step.proofs.levels.CellLevels.of.Goals as goal
+use Rattle.step.proofs.cell.Cell.levels.Goals as goal
 
 under : {x y : ℕ} → x ≡ y → y ≤ most_level → x ≤ most_level
 under e h = omega (arith, e, h)
@@ -12,7 +12,8 @@ under e h = omega (arith, e, h)
 pub invariant_of-result : goal.invariant_of-result
 unfolding level_of
 invariant_of-result c =
-    let most = cell-level_bound c.args.amounts.now c.args.c c.requires in
+    let cell = c.args.self.now in
+    let most = cell-level_bound cell.amounts.now cell.c cell.fits in
     record {
       fit = (
         under c.amount.ensures (most (organic ss)),
