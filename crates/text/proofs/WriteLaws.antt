@@ -1,6 +1,6 @@
 -- Laws of `put`: writes one behind the other are one write, stores are a write, a write over a write, over all of a text
 -- and over a part of one. Then of `put_within` and `copied`. Sequences of writes go by `grow` and `store`. No assumptions.
-use Prim.Native.Nat.{ℕ, ◌+◌, ◌-◌, ◌≤◌, ◌<◌}
+use Prim.Native.Nat.{ℕ, ◌+◌, ◌≤◌, ◌<◌}
 use mathlib.Core.Bool.{false, ◌&&◌}
 use mathlib.Core.List.{List, [], ◌∷◌, ◌++◌, append_assoc, append-nil}
 use mathlib.Core.Path.{◌≡◌, refl, sym, ap, ◌∙◌}

@@ -23,7 +23,7 @@ pub fn write_decimal(out: &mut [u8], at: usize, width: usize, value: i64)
         return;
     }
     if width > 0 {
-        write_plain(out, at, width, mark_of(value), magnitude(value));
+        write_plain(&mut out[at..at + width], mark_of(value), magnitude(value));
     }
 }
 
@@ -31,7 +31,7 @@ pub fn write_decimal(out: &mut [u8], at: usize, width: usize, value: i64)
 pub fn two_columns(n: u32) -> [u8; 2]
     ensures columns { result ≡ plain 2 32 n }
 {
-    [glyph((n / 10) as u64, b' '), b'0' + (n % 10) as u8]
+    [glyph(u64::from(n / 10), b' '), b'0' + (n % 10) as u8]
 }
 
 // n in two columns from `at` on, where both are there.
@@ -44,10 +44,7 @@ pub fn write_two(out: &mut [u8], at: usize, n: u32)
     if out.len() - at < 2 {
         return;
     }
-    let columns = two_columns(n);
-    let second = at + 1;
-    out[at] = columns[0];
-    out[second] = columns[1];
+    out[at..at + 2].copy_from_slice(&two_columns(n));
 }
 
 // The first `count` bytes of `to` become those of `from`, where both have as many.
@@ -60,9 +57,5 @@ pub fn copy_bytes(from: &[u8], count: usize, to: &mut [u8])
     if to.len() < count {
         return;
     }
-    let mut i = 0;
-    while i < count {
-        to[i] = from[i];
-        i += 1;
-    }
+    to[..count].copy_from_slice(&from[..count]);
 }

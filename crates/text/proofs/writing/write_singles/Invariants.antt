@@ -1,0 +1,13 @@
+-- The loop's invariant: the i columns still to come hold blanks, and written over what is there they give the result.
+-- No assumptions.
+use Rattle.std.proofs.Common.{◌≡◌, ◌≤◌, length}
+use Rattle.text.specs.Decimals.{columns}
+use Rattle.text.specs.Inner.Stages.{Blank}
+use Rattle.text.specs.Writes.{put}
+use Rattle.text.proofs.writing.write_singles.Given as goal
+
+abbrev pub invariant-loop-i : goal.invariant-loop-i
+invariant-loop-i l =
+    (put l.out 0 (columns l.i l.m l.rest) ≡ put l.fn.out 0 (columns (length l.fn.out) l.mark l.n))
+    × Blank l.out 0 l.i
+    × (l.i ≤ length l.out)
