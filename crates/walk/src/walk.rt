@@ -1,97 +1,84 @@
 // The river of the walk with its book, and the calls on it.
-use crate::book::{BOOK, booked, empty, with_flow, with_number};
+use crate::book::{Book, CELLS};
 use crate::calls::O2;
+use crate::contents::Contents;
 use crate::set::published_set;
-use crate::write::{write_number, write_totals};
 use kinetics::{Conditions, Temperatures};
 use river::River;
 use std::io::Result;
 use step::step_river;
 use stoichiometry::{Refusal, Set, refusal};
-use totals::{Totals, totals_of};
+use totals::totals_of;
 use transport::{air_river, flow_river, load_river};
 
 #[derive(Clone, Copy)]
 pub(crate) struct Walk {
     set: Set,
     river: River,
-    book: [Totals; BOOK],
+    book: Book,
 }
 
 impl Walk {
     pub(crate) fn start() -> std::result::Result<Walk, Refusal> {
         let set = published_set()?;
-        let fresh = River::fresh(BOOK as u32);
+        let fresh = River::fresh(CELLS as u32);
         let river = fresh.river;
         Ok(Walk {
             set,
             river,
-            book: empty(),
+            book: Book::EMPTY,
         })
     }
 
     pub(crate) fn load(
-        self,
+        mut self,
         rt: &impl Print,
         cell: u32,
         substance: u32,
         number: i64,
     ) -> Result<Walk> {
-        let set = self.set;
         let before = self.river;
-        let book = self.book;
         let answer = load_river(before, cell, substance, number);
-        rt.write_all(b"load ")?;
-        write_number(rt, answer.number)?;
-        let river = answer.river;
-        if answer.number != refusal::NONE {
-            return Ok(Walk { set, river, book });
+        println!(rt; "load {}", answer.number)?;
+        self.river = answer.river;
+        if answer.number == refusal::NONE {
+            self.book.enter_number(self.set, cell, substance, number);
         }
-        let book = with_number(book, set, cell, substance, number);
-        Ok(Walk { set, river, book })
+        Ok(self)
     }
 
-    pub(crate) fn flow(self, rt: &impl Print, part: u32) -> Result<Walk> {
-        let set = self.set;
+    pub(crate) fn flow(mut self, rt: &impl Print, part: u32) -> Result<Walk> {
         let before = self.river;
-        let book = self.book;
         let answer = flow_river(before, part);
-        rt.write_all(b"flow ")?;
-        write_number(rt, answer.number)?;
-        let river = answer.river;
-        if answer.number != refusal::NONE {
-            return Ok(Walk { set, river, book });
+        println!(rt; "flow {}", answer.number)?;
+        self.river = answer.river;
+        if answer.number == refusal::NONE {
+            self.book.enter_flow(self.set, answer.left);
         }
-        let left = answer.left;
-        let book = with_flow(book, set, left);
-        Ok(Walk { set, river, book })
+        Ok(self)
     }
 
     pub(crate) fn air(
-        self,
+        mut self,
         rt: &impl Print,
         cell: u32,
         constant: u32,
         seconds: u32,
         saturation: u32,
     ) -> Result<Walk> {
-        let set = self.set;
         let before = self.river;
-        let book = self.book;
         let answer = air_river(before, cell, constant, seconds, saturation);
-        rt.write_all(b"air ")?;
-        write_number(rt, answer.number)?;
-        let river = answer.river;
-        if answer.number != refusal::NONE {
-            return Ok(Walk { set, river, book });
+        println!(rt; "air {}", answer.number)?;
+        self.river = answer.river;
+        if answer.number == refusal::NONE {
+            self.book.enter_number(self.set, cell, O2, answer.amount);
         }
-        let book = with_number(book, set, cell, O2, answer.amount);
-        Ok(Walk { set, river, book })
+        Ok(self)
     }
 
     // A step at a temperature at which every temperature factor is `warmth`, millionths.
     pub(crate) fn step(
-        self,
+        mut self,
         rt: &impl Print,
         seconds: u32,
         light: u32,
@@ -99,7 +86,6 @@ impl Walk {
     ) -> Result<Walk> {
         let set = self.set;
         let before = self.river;
-        let book = self.book;
         let temperatures = Temperatures {
             xh: warmth,
             xn1: warmth,
@@ -113,27 +99,21 @@ impl Walk {
             temperatures,
         };
         let answer = step_river(set, before, given);
-        rt.write_all(b"step ")?;
-        write_number(rt, answer.number)?;
-        let river = answer.river;
-        Ok(Walk { set, river, book })
-    }
-
-    fn write_cell(self, rt: &impl Print, cell: u32) -> Result<()> {
-        let set = self.set;
-        let river = self.river;
-        let book = self.book;
-        rt.write_all(b"holds ")?;
-        write_totals(rt, cell, totals_of(set, river, cell))?;
-        rt.write_all(b"book  ")?;
-        write_totals(rt, cell, booked(book, cell))
+        println!(rt; "step {}", answer.number)?;
+        self.river = answer.river;
+        Ok(self)
     }
 
     // C, H, O, N, P and charge of each cell: held, and booked.
     pub(crate) fn write(self, rt: &impl Print) -> Result<()> {
-        self.write_cell(rt, 1)?;
-        self.write_cell(rt, 2)?;
-        self.write_cell(rt, 3)?;
-        self.write_cell(rt, 4)
+        let set = self.set;
+        let river = self.river;
+        for cell in 1..=CELLS as u32 {
+            let held = Contents::from(totals_of(set, river, cell));
+            println!(rt; "holds {cell} {held}")?;
+            let booked = self.book.cell(cell);
+            println!(rt; "book  {cell} {booked}")?;
+        }
+        Ok(())
     }
 }
