@@ -49,12 +49,6 @@ const GRAM: i64 = 1000000;
 
 const MOLE: i64 = 312480000000000;
 
-fn write_call(rt: &impl Print, name: &[u8], number: u32) -> Result<()> {
-    rt.write_all(name)?;
-    rt.println(number)?;
-    Ok(())
-}
-
 // What the probe reads: NH4-N, NO2-N, NO3-N and PO4-P in g/m³, oxygen in per cent of saturation.
 fn frame() -> Frame {
     Frame {
@@ -84,24 +78,23 @@ impl Day {
         let fresh = River::fresh(CELLS);
         let river = fresh.river;
         let published = Set::published(rates(), half_saturations());
-        write_call(rt, b"set ", number_of(&published))?;
+        println!(rt; "set {}", number_of(&published))?;
         Ok(Day {
             set: published?,
             river,
         })
     }
 
-    fn load(self, rt: &impl Print, substance: u32, number: i64) -> Result<Day> {
-        let set = self.set;
+    fn load(mut self, rt: &impl Print, substance: u32, number: i64) -> Result<Day> {
         let before = self.river;
         let answer = transport::load_river(before, 1, substance, number);
-        write_call(rt, b"load ", answer.number)?;
-        let river = answer.river;
-        Ok(Day { set, river })
+        println!(rt; "load {}", answer.number)?;
+        self.river = answer.river;
+        Ok(self)
     }
 
     fn load_frame(self, rt: &impl Print, amounts: Amounts) -> Result<Day> {
-        write_call(rt, b"frame ", amounts.number)?;
+        println!(rt; "frame {}", amounts.number)?;
         let oxygen = amounts.oxygen;
         self.load(rt, NH4, amounts.ammonium)?
             .load(rt, NO2, amounts.nitrite)?
@@ -124,7 +117,7 @@ impl Day {
 
     // Ten minutes at 20 °C, for which the rate constants hold: all factors are 10^6 but light's. That is a half, I /
     // (I + KI) of document 000, appendix 2, where the light I is 500 W/m², as KI is in Table 8.
-    fn step(self, rt: &impl Print) -> Result<Day> {
+    fn step(mut self, rt: &impl Print) -> Result<Day> {
         let set = self.set;
         let before = self.river;
         let temperatures = Temperatures {
@@ -140,28 +133,26 @@ impl Day {
             temperatures,
         };
         let answer = step::step_river(set, before, given);
-        write_call(rt, b"step ", answer.number)?;
-        let river = answer.river;
-        Ok(Day { set, river })
+        println!(rt; "step {}", answer.number)?;
+        self.river = answer.river;
+        Ok(self)
     }
 
     // A twentieth of each cell passes down.
-    fn flow(self, rt: &impl Print) -> Result<Day> {
-        let set = self.set;
+    fn flow(mut self, rt: &impl Print) -> Result<Day> {
         let before = self.river;
         let answer = transport::flow_river(before, 500);
-        write_call(rt, b"flow ", answer.number)?;
-        let river = answer.river;
-        Ok(Day { set, river })
+        println!(rt; "flow {}", answer.number)?;
+        self.river = answer.river;
+        Ok(self)
     }
 
-    fn air(self, rt: &impl Print, cell: u32) -> Result<Day> {
-        let set = self.set;
+    fn air(mut self, rt: &impl Print, cell: u32) -> Result<Day> {
         let before = self.river;
         let answer = transport::air_river(before, cell, AIR_CONSTANT, 600, SATURATION);
-        write_call(rt, b"air ", answer.number)?;
-        let river = answer.river;
-        Ok(Day { set, river })
+        println!(rt; "air {}", answer.number)?;
+        self.river = answer.river;
+        Ok(self)
     }
 
     fn ten_minutes(self, rt: &impl Print) -> Result<Day> {
@@ -190,7 +181,7 @@ impl Day {
         let mut output = [0; BYTES];
         let mut work = [0; BYTES];
         let number = record::write_record(river, &mut output, &mut work);
-        write_call(rt, b"record ", number)?;
+        println!(rt; "record {}", number)?;
         rt.write_all(&output)?;
         Ok(())
     }
