@@ -1,12 +1,12 @@
 // The river of the walk with its book, and the calls on it.
 use crate::book::{Book, CELLS};
-use crate::calls::O2;
 use crate::contents::Contents;
 use crate::set::published_set;
 use kinetics::{Conditions, Temperatures};
 use river::River;
 use std::io::Result;
 use step::step_river;
+use stoichiometry::number::O2;
 use stoichiometry::{Refusal, Set, refusal};
 use totals::totals_of;
 use transport::{air_river, flow_river, load_river};

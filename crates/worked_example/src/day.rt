@@ -6,36 +6,12 @@ use kinetics::{Conditions, Temperatures};
 use probe::{Amounts, Frame, Oxygen, OxygenAmount};
 use record::Record;
 use river::River;
-use stoichiometry::{Set, number_of, place};
+use stoichiometry::number::{HCO3, HPO4, NH4, NO2, NO3, O2, SS, XALG, XH, XN1, XN2, XS};
+use stoichiometry::{Set, number_of};
 
 const CELLS: u32 = 2;
 
 const BYTES: usize = CELLS as usize * Record::CELL_BYTES;
-
-// Substances by number, one more than their place.
-const SS: u32 = place::SS as u32 + 1;
-
-const NH4: u32 = place::NH4 as u32 + 1;
-
-const NO2: u32 = place::NO2 as u32 + 1;
-
-const NO3: u32 = place::NO3 as u32 + 1;
-
-const HPO4: u32 = place::HPO4 as u32 + 1;
-
-const O2: u32 = place::O2 as u32 + 1;
-
-const HCO3: u32 = place::HCO3 as u32 + 1;
-
-const XH: u32 = place::XH as u32 + 1;
-
-const XN1: u32 = place::XN1 as u32 + 1;
-
-const XN2: u32 = place::XN2 as u32 + 1;
-
-const XALG: u32 = place::XALG as u32 + 1;
-
-const XS: u32 = place::XS as u32 + 1;
 
 // O2 in water that is in balance with the air at 20 °C, µg (document 000, appendix 2: 14.65 − 0.41 T + 0.00799 T²
 // − 0.0000778 T³ g/m³).
@@ -160,12 +136,11 @@ impl Day {
     }
 
     pub(crate) fn hour(self, rt: &impl Print) -> Result<Day> {
-        self.ten_minutes(rt)?
-            .ten_minutes(rt)?
-            .ten_minutes(rt)?
-            .ten_minutes(rt)?
-            .ten_minutes(rt)?
-            .ten_minutes(rt)
+        let mut day = self;
+        for _ in 0..6 {
+            day = day.ten_minutes(rt)?;
+        }
+        Ok(day)
     }
 
     fn letter(self, cell: u32) -> u8 {
