@@ -1,5 +1,5 @@
 // The places of the substances in their order, counted from 0: where an amount of a cell, or an entry of a row, stands.
-// The number of a substance, as `transport::load_river` takes it, is one more.
+// The number of a substance is one more.
 pub const SS: usize = 0;
 
 pub const SI: usize = 1;

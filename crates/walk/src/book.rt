@@ -1,155 +1,72 @@
-// The book: six totals for each cell, kept of the calls and their answers. What a list of amounts or a number of a
-// substance contains is asked of a river that holds that and nothing else.
+// The book: what each cell holds by the calls and their answers alone. What a list of amounts or a number of a substance
+// contains is asked of a river that holds that and nothing else.
+use crate::contents::Contents;
 use river::{AMOUNTS, CARRIES, River};
-use stoichiometry::{SUBSTANCES, Set};
-use totals::{Totals, totals_of};
-
-// No total of the walk is further from 0 than this, grains.
-const MOST: i64 = 4000000000000000000;
+use stoichiometry::Set;
+use totals::totals_of;
 
 // The cells of the walk.
-pub(crate) const BOOK: usize = 4;
-
-pub(crate) const NONE: Totals = Totals {
-    carbon: 0,
-    hydrogen: 0,
-    oxygen: 0,
-    nitrogen: 0,
-    phosphorus: 0,
-    charge: 0,
-};
-
-pub(crate) fn empty() -> [Totals; BOOK] {
-    [NONE; BOOK]
-}
-
-// A sum, or a number that no total is.
-fn sum(a: i64, b: i64) -> i64 {
-    if a < -MOST {
-        return a;
-    }
-    if MOST < a {
-        return a;
-    }
-    if b < -MOST {
-        return b;
-    }
-    if MOST < b {
-        return b;
-    }
-    a + b
-}
-
-fn minus(a: i64) -> i64 {
-    if a < -MOST {
-        return a;
-    }
-    if MOST < a {
-        return a;
-    }
-    -a
-}
-
-fn added(a: Totals, b: Totals) -> Totals {
-    Totals {
-        carbon: sum(a.carbon, b.carbon),
-        hydrogen: sum(a.hydrogen, b.hydrogen),
-        oxygen: sum(a.oxygen, b.oxygen),
-        nitrogen: sum(a.nitrogen, b.nitrogen),
-        phosphorus: sum(a.phosphorus, b.phosphorus),
-        charge: sum(a.charge, b.charge),
-    }
-}
-
-fn negated(a: Totals) -> Totals {
-    Totals {
-        carbon: minus(a.carbon),
-        hydrogen: minus(a.hydrogen),
-        oxygen: minus(a.oxygen),
-        nitrogen: minus(a.nitrogen),
-        phosphorus: minus(a.phosphorus),
-        charge: minus(a.charge),
-    }
-}
+pub(crate) const CELLS: usize = 4;
 
 // What stands for a cell in a list of amounts.
-fn contents(set: Set, amounts: [i64; AMOUNTS], cell: u32) -> Totals {
+fn contents(set: Set, amounts: [i64; AMOUNTS], cell: u32) -> Contents {
     let held = River {
         cells: River::CELLS_MOST as u32,
         amounts,
         carries: [0; CARRIES],
     };
-    totals_of(set, held, cell).unwrap_or(NONE)
+    totals_of(set, held, cell).map_or(Contents::NONE, Contents::from)
 }
 
 // What a number, not negative, of a substance contains; the substance is counted from 1.
-fn contents_of(set: Set, substance: u32, number: i64) -> Totals {
+fn contents_of(set: Set, substance: u32, number: i64) -> Contents {
     let mut amounts = [0; AMOUNTS];
-    if substance >= 1 {
-        let s = (substance - 1) as usize;
-        if s < SUBSTANCES {
-            amounts[s] = number;
-        }
+    let place = (substance as usize).wrapping_sub(1);
+    if let Some(amount) = amounts.get_mut(place) {
+        *amount = number;
     }
     contents(set, amounts, 1)
 }
 
-// The totals of a cell, counted from 1.
-pub(crate) fn booked(book: [Totals; BOOK], cell: u32) -> Totals {
-    if cell >= 1 {
-        let at = (cell - 1) as usize;
-        if at < BOOK {
-            return book[at];
+// Cells are counted from 1. Nothing is booked of a cell that is not there: what the last one passes down goes away.
+#[derive(Clone, Copy)]
+pub(crate) struct Book {
+    cells: [Contents; CELLS],
+}
+
+impl Book {
+    pub(crate) const EMPTY: Book = Book {
+        cells: [Contents::NONE; CELLS],
+    };
+
+    pub(crate) fn cell(&self, cell: u32) -> Contents {
+        let place = (cell as usize).wrapping_sub(1);
+        self.cells.get(place).copied().unwrap_or(Contents::NONE)
+    }
+
+    fn enter(&mut self, cell: u32, what: Contents) {
+        let place = (cell as usize).wrapping_sub(1);
+        if let Some(held) = self.cells.get_mut(place) {
+            *held = held.plus(what);
         }
     }
-    NONE
-}
 
-// The book with six totals more for a cell, counted from 1.
-fn entered(book: [Totals; BOOK], cell: u32, what: Totals) -> [Totals; BOOK] {
-    let mut after = book;
-    if cell >= 1 {
-        let at = (cell - 1) as usize;
-        if at < BOOK {
-            let before = book[at];
-            after[at] = added(before, what);
+    // A number, of either sign, of a substance that came to a cell.
+    pub(crate) fn enter_number(&mut self, set: Set, cell: u32, substance: u32, number: i64) {
+        if number < 0 {
+            let lost = contents_of(set, substance, number.saturating_neg());
+            self.enter(cell, lost.negated());
+        } else {
+            self.enter(cell, contents_of(set, substance, number));
         }
     }
-    after
-}
 
-// A number, of either sign, of a substance that came to a cell.
-pub(crate) fn with_number(
-    book: [Totals; BOOK],
-    set: Set,
-    cell: u32,
-    substance: u32,
-    number: i64,
-) -> [Totals; BOOK] {
-    if number < 0 {
-        let lost = contents_of(set, substance, minus(number));
-        return entered(book, cell, negated(lost));
+    // What a flow lists: what left a cell went to the next.
+    pub(crate) fn enter_flow(&mut self, set: Set, left: [i64; AMOUNTS]) {
+        for cell in 1..=CELLS as u32 {
+            let what = contents(set, left, cell);
+            self.enter(cell, what.negated());
+            self.enter(cell + 1, what);
+        }
     }
-    entered(book, cell, contents_of(set, substance, number))
-}
-
-// What left a cell goes to the next, or away where there is no next.
-fn passed(
-    book: [Totals; BOOK],
-    set: Set,
-    left: [i64; AMOUNTS],
-    cell: u32,
-    next: u32,
-) -> [Totals; BOOK] {
-    let what = contents(set, left, cell);
-    let without = entered(book, cell, negated(what));
-    entered(without, next, what)
-}
-
-// What a flow lists.
-pub(crate) fn with_flow(book: [Totals; BOOK], set: Set, left: [i64; AMOUNTS]) -> [Totals; BOOK] {
-    let first = passed(book, set, left, 1, 2);
-    let second = passed(first, set, left, 2, 3);
-    let third = passed(second, set, left, 3, 4);
-    passed(third, set, left, 4, 5)
 }

@@ -1,32 +1,8 @@
 // The calls of the walk.
 use crate::walk::Walk;
 use std::io::Result;
-use stoichiometry::{Set, place};
-
-// Substances by number, one more than their place.
-const SS: u32 = place::SS as u32 + 1;
-
-const NH4: u32 = place::NH4 as u32 + 1;
-
-const NO2: u32 = place::NO2 as u32 + 1;
-
-const NO3: u32 = place::NO3 as u32 + 1;
-
-const HPO4: u32 = place::HPO4 as u32 + 1;
-
-pub(crate) const O2: u32 = place::O2 as u32 + 1;
-
-const HCO3: u32 = place::HCO3 as u32 + 1;
-
-const XH: u32 = place::XH as u32 + 1;
-
-const XN1: u32 = place::XN1 as u32 + 1;
-
-const XN2: u32 = place::XN2 as u32 + 1;
-
-const XALG: u32 = place::XALG as u32 + 1;
-
-const XS: u32 = place::XS as u32 + 1;
+use stoichiometry::Set;
+use stoichiometry::number::{HCO3, HPO4, NH4, NO2, NO3, O2, SS, XALG, XH, XN1, XN2, XS};
 
 // Grains in a gram of O2, and of N.
 const OXYGEN: i64 = Set::GRAINS_PER_MICROGRAM_O * 1000000;

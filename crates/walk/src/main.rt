@@ -5,9 +5,9 @@
 
 mod book;
 mod calls;
+mod contents;
 mod set;
 mod walk;
-mod write;
 
 use anyhow::Result;
 

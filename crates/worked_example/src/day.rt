@@ -6,36 +6,12 @@ use kinetics::{Conditions, Temperatures};
 use probe::{Amounts, Frame, Oxygen};
 use record::Record;
 use river::{Letter, River};
-use stoichiometry::{Refusal, Set, number_of, place};
+use stoichiometry::number::{HCO3, HPO4, NH4, NO2, NO3, O2, SS, XALG, XH, XN1, XN2, XS};
+use stoichiometry::{Refusal, Set, number_of};
 
 const CELLS: u32 = 2;
 
 const BYTES: usize = CELLS as usize * Record::CELL_BYTES;
-
-// Substances by number, one more than their place.
-const SS: u32 = place::SS as u32 + 1;
-
-const NH4: u32 = place::NH4 as u32 + 1;
-
-const NO2: u32 = place::NO2 as u32 + 1;
-
-const NO3: u32 = place::NO3 as u32 + 1;
-
-const HPO4: u32 = place::HPO4 as u32 + 1;
-
-const O2: u32 = place::O2 as u32 + 1;
-
-const HCO3: u32 = place::HCO3 as u32 + 1;
-
-const XH: u32 = place::XH as u32 + 1;
-
-const XN1: u32 = place::XN1 as u32 + 1;
-
-const XN2: u32 = place::XN2 as u32 + 1;
-
-const XALG: u32 = place::XALG as u32 + 1;
-
-const XS: u32 = place::XS as u32 + 1;
 
 // O2 in water that is in balance with the air at 20 °C, µg (document 000, appendix 2: 14.65 − 0.41 T + 0.00799 T²
 // − 0.0000778 T³ g/m³).
@@ -48,12 +24,6 @@ const AIR_CONSTANT: u32 = 5000;
 const GRAM: i64 = 1000000;
 
 const MOLE: i64 = 312480000000000;
-
-fn write_call(rt: &impl Print, name: &[u8], number: u32) -> Result<()> {
-    rt.write_all(name)?;
-    rt.println(number)?;
-    Ok(())
-}
 
 // What the probe reads: NH4-N, NO2-N, NO3-N and PO4-P in g/m³, oxygen in per cent of saturation.
 fn frame() -> Frame {
@@ -76,20 +46,19 @@ impl Day {
     pub(crate) fn start(rt: &impl Print) -> Result<Day> {
         let river = River::fresh(CELLS)?;
         let published = Set::published(rates(), half_saturations());
-        write_call(rt, b"set ", number_of(&published))?;
+        println!(rt; "set {}", number_of(&published))?;
         Ok(Day {
             set: published?,
             river,
         })
     }
 
-    fn load(self, rt: &impl Print, substance: u32, number: i64) -> Result<Day> {
-        let set = self.set;
+    fn load(mut self, rt: &impl Print, substance: u32, number: i64) -> Result<Day> {
         let before = self.river;
         let answer = transport::load_river(before, 1, substance, number);
-        write_call(rt, b"load ", number_of(&answer))?;
-        let river = answer.unwrap_or(before);
-        Ok(Day { set, river })
+        println!(rt; "load {}", number_of(&answer))?;
+        self.river = answer.unwrap_or(before);
+        Ok(self)
     }
 
     fn load_frame(
@@ -97,7 +66,7 @@ impl Day {
         rt: &impl Print,
         answer: std::result::Result<Amounts, Refusal>,
     ) -> Result<Day> {
-        write_call(rt, b"frame ", number_of(&answer))?;
+        println!(rt; "frame {}", number_of(&answer))?;
         let amounts = answer?;
         self.load(rt, NH4, amounts.ammonium)?
             .load(rt, NO2, amounts.nitrite)?
@@ -120,7 +89,7 @@ impl Day {
 
     // Ten minutes at 20 °C, for which the rate constants hold: all factors are 10^6 but light's. That is a half, I /
     // (I + KI) of document 000, appendix 2, where the light I is 500 W/m², as KI is in Table 8.
-    fn step(self, rt: &impl Print) -> Result<Day> {
+    fn step(mut self, rt: &impl Print) -> Result<Day> {
         let set = self.set;
         let before = self.river;
         let temperatures = Temperatures {
@@ -136,38 +105,30 @@ impl Day {
             temperatures,
         };
         let answer = step::step_river(set, before, given);
-        write_call(rt, b"step ", number_of(&answer))?;
-        let river = answer.unwrap_or(before);
-        Ok(Day { set, river })
+        println!(rt; "step {}", number_of(&answer))?;
+        self.river = answer.unwrap_or(before);
+        Ok(self)
     }
 
     // A twentieth of each cell passes down.
-    fn flow(self, rt: &impl Print) -> Result<Day> {
-        let set = self.set;
+    fn flow(mut self, rt: &impl Print) -> Result<Day> {
         let before = self.river;
         let answer = transport::flow_river(before, 500);
-        write_call(rt, b"flow ", number_of(&answer))?;
-        match answer {
-            Err(_) => Ok(self),
-            Ok(flowed) => Ok(Day {
-                set,
-                river: flowed.river,
-            }),
+        println!(rt; "flow {}", number_of(&answer))?;
+        if let Ok(flowed) = answer {
+            self.river = flowed.river;
         }
+        Ok(self)
     }
 
-    fn air(self, rt: &impl Print, cell: u32) -> Result<Day> {
-        let set = self.set;
+    fn air(mut self, rt: &impl Print, cell: u32) -> Result<Day> {
         let before = self.river;
         let answer = transport::air_river(before, cell, AIR_CONSTANT, 600, SATURATION);
-        write_call(rt, b"air ", number_of(&answer))?;
-        match answer {
-            Err(_) => Ok(self),
-            Ok(aired) => Ok(Day {
-                set,
-                river: aired.river,
-            }),
+        println!(rt; "air {}", number_of(&answer))?;
+        if let Ok(aired) = answer {
+            self.river = aired.river;
         }
+        Ok(self)
     }
 
     fn ten_minutes(self, rt: &impl Print) -> Result<Day> {
@@ -175,12 +136,11 @@ impl Day {
     }
 
     pub(crate) fn hour(self, rt: &impl Print) -> Result<Day> {
-        self.ten_minutes(rt)?
-            .ten_minutes(rt)?
-            .ten_minutes(rt)?
-            .ten_minutes(rt)?
-            .ten_minutes(rt)?
-            .ten_minutes(rt)
+        let mut day = self;
+        for _ in 0..6 {
+            day = day.ten_minutes(rt)?;
+        }
+        Ok(day)
     }
 
     fn letter(self, cell: u32) -> std::result::Result<Letter, Refusal> {
@@ -195,7 +155,7 @@ impl Day {
         let mut output = [0; BYTES];
         let mut work = [0; BYTES];
         let written = record::write_record(river, &mut output, &mut work);
-        write_call(rt, b"record ", number_of(&written))?;
+        println!(rt; "record {}", number_of(&written))?;
         rt.write_all(&output)?;
         Ok(())
     }

@@ -1,0 +1,46 @@
+// What a cell holds: six totals.
+use std::fmt;
+use totals::Totals;
+
+const TOTALS: usize = 6;
+
+// C, H, O, N, P and charge, grains. None of the walk comes near the limits of 64 bits.
+#[derive(Clone, Copy)]
+pub(crate) struct Contents([i64; TOTALS]);
+
+impl Contents {
+    pub(crate) const NONE: Contents = Contents([0; TOTALS]);
+
+    pub(crate) fn plus(self, other: Contents) -> Contents {
+        let mut sum = self.0;
+        for (total, more) in sum.iter_mut().zip(&other.0) {
+            *total = total.saturating_add(*more);
+        }
+        Contents(sum)
+    }
+
+    pub(crate) fn negated(self) -> Contents {
+        Contents(self.0.map(|total| total.saturating_neg()))
+    }
+}
+
+impl From<Totals> for Contents {
+    fn from(t: Totals) -> Contents {
+        Contents([
+            t.carbon,
+            t.hydrogen,
+            t.oxygen,
+            t.nitrogen,
+            t.phosphorus,
+            t.charge,
+        ])
+    }
+}
+
+impl fmt::Display for Contents {
+    fn fmt<W: fmt::Write>(&self, f: &mut fmt::Formatter<W>) -> fmt::Result {
+        let [carbon, hydrogen, oxygen, nitrogen, phosphorus, charge] = self.0;
+        write!(f, "{carbon} {hydrogen} {oxygen} ")?;
+        write!(f, "{nitrogen} {phosphorus} {charge}")
+    }
+}
