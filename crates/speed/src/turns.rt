@@ -73,7 +73,7 @@ pub(crate) fn rows_turn(set: Set, sum: u64, turn: u64) -> u64 {
     let answer = rows::rows_of(set);
     let entry = (turn % 153) as usize;
     let with_number = with(sum, number_of(&answer) as u64);
-    match answer {
+    match &answer {
         Ok(rows) => {
             let with_one = with_signed(with_number, rows.entries[entry]);
             with_signed(with_one, rows.entries[entry + 153])
