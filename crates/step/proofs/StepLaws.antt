@@ -45,7 +45,7 @@ module _ (set : Set) (conditions : Conditions) (r : River) (right : river_wrong 
   few c p = leb (batches set conditions (amount_at r.amounts c) (carry_at r.carries c) p) most_batches
 
   -- Check 7 is passed where the batches of the list pass it.
-  pub batches_pass : Pass r.cells whole → batches_wrong set conditions r ≡ false
+  pub batches_pass : Pass whole → batches_wrong set conditions r ≡ false
   unfolding batches_wrong few
   batches_pass pass =
       ap not
@@ -53,7 +53,8 @@ module _ (set : Set) (conditions : Conditions) (r : River) (right : river_wrong 
       (λ c h.
       every_all processes (few c)
       (λ p l.
-      let inside : (c + 1) * processes ≤ r.cells * processes = mul-le-mul_right processes (omega arith) in
+      let next : c + 1 ≤ most_cells = omega (arith, (river-cells r right).1) in
+      let inside : (c + 1) * processes ≤ most_cells * processes = mul-le-mul_right processes next in
       le_le_z _ (pos most_batches) (rw (whole_in_cell c p h l) at (pass (c * processes + p) (omega arith))))))
 
   -- Whole batches that passed check 7.
@@ -70,17 +71,14 @@ module _ (set : Set) (conditions : Conditions) (r : River) (right : river_wrong 
       rw made (record { most = λ k h. rw (get_or-tab (most_cells * processes) _ k (pos 0) h) (small k) })
 
   -- It is not where they do not.
-  pub batches_many : (Pass r.cells whole → ⊥) → batches_wrong set conditions r ≡ true
+  pub batches_many : (Pass whole → ⊥) → batches_wrong set conditions r ≡ true
   batches_many many = go _ refl
     where
       go : (b : Bool) → batches_wrong set conditions r ≡ b → batches_wrong set conditions r ≡ true
       go true e = e
       go false e =
           absurd
-          (many
-          (λ k h.
-          let cells : r.cells * processes ≤ most_cells * processes = mul-le-mul_right processes (river-cells r right).1 in
-          abs_le _ most_batches ((batches-fit e).most k (omega arith))))
+          (many (λ k h. abs_le _ most_batches ((batches-fit e).most k h)))
 
   -- The amounts after.
   pub amounts_are : (entries out : List ℤ) → entries ≡ rows_of set

@@ -37,7 +37,7 @@ pub(crate) fn step_cells(
         sizes: batches_of(set),
     };
     rates.make_batches(river, &mut whole, rest);
-    if !batches_fit(n, &whole) {
+    if !batches_fit(&whole) {
         return Err(Refusal::Batches);
     }
     let terms = Terms {

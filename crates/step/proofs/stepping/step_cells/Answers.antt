@@ -20,9 +20,6 @@ invariant_of-rates c =
 pub make_batches-requires : goal.make_batches-requires
 make_batches-requires c = (c.requires.0.river, refl, c.requires.2)
 
-pub batches_fit-requires : goal.batches_fit-requires
-batches_fit-requires c = (river-cells c.args.river.now c.requires.0.river).1
-
 pub invariant_of-terms : goal.invariant_of-terms
 invariant_of-terms c =
     let a = c.args in
