@@ -5,7 +5,7 @@ use arrayvec::ArrayVec;
 // More numbers than a line has: the figures of a set. What stands beyond them is left out.
 const ROOM: usize = 96;
 
-// A line as far as it is read.
+// A line as far as it is read. Its numbers need no heap, which would be one thing more to trust.
 #[derive(Drop)]
 pub(crate) struct Line {
     pub letter: u8,

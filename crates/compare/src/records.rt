@@ -10,7 +10,7 @@ use stoichiometry::{Refusal, number_of};
 // Room for more than a text of nine cells.
 pub(crate) const ROOM: usize = 8600;
 
-// A text, and what stands behind it in its room.
+// A text, and what stands behind it in its room. A line can lengthen the text over that, so this is no vector.
 #[derive(Clone, Copy)]
 pub(crate) struct Text {
     bytes: [u8; ROOM],

@@ -6,7 +6,7 @@ use std::fmt;
 // The numbers that a call answers: 0, and those of the refusals.
 pub(crate) const NUMBERS: usize = 13;
 
-// Calls of one kind by expected number, and equal answers. No count of a text that fits in the memory reaches the limit.
+// Calls of one kind by expected number, and equal answers. No count reaches the limit.
 #[derive(Clone, Copy)]
 pub(crate) struct Row {
     pub counts: [u64; NUMBERS],

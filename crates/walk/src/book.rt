@@ -1,5 +1,5 @@
-// The book: what each cell holds by the calls and their answers alone. What a list of amounts or a number of a substance
-// contains is asked of a river that holds that and nothing else.
+// The book: what each cell holds by the calls and their answers alone. What a list of amounts or a number of a
+// substance contains is asked of a river that holds that and nothing else.
 use crate::contents::Contents;
 use river::{AMOUNTS, CARRIES, River};
 use stoichiometry::Set;

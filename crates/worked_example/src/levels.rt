@@ -41,7 +41,8 @@ fn write_level(
     println!(rt; "{name:<6}{first}{second}")
 }
 
-// A line for each substance that has a level. The nitrogen is in g of N, the phosphate in g of P.
+// A line for each substance that has a level, each a call: of the entries of a list it would not be known that the
+// places and the units are in range. The nitrogen is in g of N, the phosphate in g of P.
 pub(crate) fn write_levels(rt: &impl Print, amounts: &[i64; AMOUNTS]) -> Result<()> {
     println!(rt; "g/m3      cell 1    cell 2")?;
     write_level(rt, "SS", amounts, place::SS, ORGANIC)?;
