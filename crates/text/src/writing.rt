@@ -49,7 +49,7 @@ pub(crate) fn write_singles(out: &mut [u8], mark: u8, n: u64)
     }
 }
 
-// The digits of n and its mark in columns that hold blanks.
+// The digits of n and its mark in columns that hold blanks, four a turn. The walk is over the digits, not the columns.
 fn write_columns(out: &mut [u8], mark: u8, n: u64)
     requires { Blank out.old 0 (length out.old) }
     ensures { out.new ≡ columns (length out.old) mark n }

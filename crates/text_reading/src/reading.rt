@@ -62,8 +62,8 @@ fn blanks(columns: &[u8]) -> usize
     columns.len()
 }
 
-// The value of columns whose blanks and mark end at `start`, where no zero stands: two digits a turn, then the last. By
-// index: a walk over `as_chunks` takes a fifth more of the time that a record is read in.
+// The value of columns whose blanks and mark end at `start`, where no zero stands: two digits a turn, then the last.
+// By index: with `as_chunks` here and `take_while` above, reading a record takes a third longer.
 fn digits_after(columns: &[u8], start: usize, mark: u8) -> Option<i64>
     requires digits_from { DigitsFrom columns.now start mark }
     requires no_leading_zero { get_or columns.now start 0 ≡ 48 → ⊥ }
