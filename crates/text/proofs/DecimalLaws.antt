@@ -2,16 +2,16 @@
 -- and what is still to come are what was to come before. No assumptions.
 use Prim.Native.Nat.{ℕ, zero, suc, ◌+◌, ◌-◌, ◌/◌, ◌%◌, ◌≤◌, ◌<◌}
 use mathlib.Core.List.{List, [], ◌∷◌, ◌++◌}
-use mathlib.Core.Path.{◌≡◌, refl, sym, ap, ◌∙◌, subst}
+use mathlib.Core.Path.{◌≡◌, refl, sym, ap, ◌∙◌}
 use native.Mathlib.Numerals.{add-one, sub-one}
 use native.Mathlib.Omega.{arith}
 use lib.IntN.{ℤ, nat_abs}
-use lib.ListN.{length, set, get_or, replicate, length-append, get_or-replicate, replicate-append-replicate}
+use lib.ListN.{length, set, length-append}
 use lib.Seq.{get_or-set_other, set-get_or}
 use Rattle.text.specs.Writes.{put}
 use Rattle.text.specs.Decimals.{glyph, next_mark, columns, plain, mark_of, decimal}
 use Rattle.text.specs.Inner.Stages.{Blank}
-use Rattle.text.proofs.WriteLaws.{put-none, put-length, put_at, put_before, put_over, set-put, store}
+use Rattle.text.proofs.WriteLaws.{put-none, put_before, set-put}
 
 pub columns-length : (i mark r : ℕ) → length (columns i mark r) ≡ i
 unfolding columns
@@ -85,24 +85,6 @@ unfolding plain
 plain-none l at zero m n h = put-none l at
 plain-none l at (suc w) m n h = absurd (omega arith)
 
--- One blank more, from the left.
-pub blanks_more : (l l₁ : List ℕ) (at i : ℕ) → at + i < length l → l₁ ≡ put l at (columns i 32 0)
-    → set l₁ (at + i) 32 ≡ put l at (columns (i + 1) 32 0)
-unfolding columns glyph next_mark
-blanks_more l l₁ at i h e =
-    rw (add-one i) (store l l₁ at i (at + i) 32 (columns i 32 0) (columns-length i 32 0) refl h e)
-
--- Columns of blanks that were written are blank.
-pub blank_written : (l : List ℕ) (at w : ℕ) → at + w ≤ length l → Blank (put l at (columns w 32 0)) at w
-unfolding columns glyph next_mark
-blank_written l at w h j k =
-    put_at l at (columns w 32 0) j (omega (arith, columns-length w 32 0)) (omega (arith, columns-length w 32 0))
-    ∙ ap (λ (x : List ℕ). get_or x j 0) (blanks w) ∙ get_or-replicate w j 32 0 k
-  where
-    blanks : (n : ℕ) → columns n 32 0 ≡ replicate n 32
-    blanks zero = refl
-    blanks (suc n) = rw (blanks n) (replicate-append-replicate n 1 32 ∙ ap (λ (x : ℕ). replicate x 32) (add-one n))
-
 -- A store behind them leaves columns blank.
 pub blank_set : (l : List ℕ) (at i j k b : ℕ) → Blank l at i → j ≤ i → at + j ≤ k → Blank (set l k b) at j
 blank_set l at i j k b h le room n lt =
@@ -121,34 +103,3 @@ blank_end l at i m r h room er em = rw (em, er) (blanks i h room)
         ∙ ap (λ (x : List ℕ). put x at (columns n 32 0))
         (ap (set l (at + n)) (sym (h n (omega arith))) ∙ set-get_or l (at + n) 0)
         ∙ blanks n (λ j k. h j (omega arith)) (omega arith)
-
--- A number is written over blanks: a lone zero and the mark before it, or digits and the mark.
-module _ (l l₁ : List ℕ) (at w : ℕ) (some : 0 < w) (room : at + w ≤ length l)
-    (e : l₁ ≡ put l at (columns w 32 0)) where
-  pub over_blank : Blank l₁ at w
-  over_blank = subst (λ (x : List ℕ). Blank x at w) (sym e) (blank_written l at w room)
-
-  pub zero_blank : Blank (set l₁ (at + (w - 1)) 48) at (w - 1)
-  zero_blank = blank_set l₁ at w (w - 1) (at + (w - 1)) 48 over_blank (omega arith) (omega arith)
-
-  over : (xs : List ℕ) → length xs ≡ w → put l₁ at xs ≡ put l at xs
-  over xs long =
-      let blanks = columns-length w 32 0 in rw e (put_over l at (columns w 32 0) xs (omega arith) (omega arith))
-
-  pub zero_written : (l₂ : List ℕ) (m n : ℕ) → n ≡ 0 → l₂ ≡ put (set l₁ (at + (w - 1)) 48) at (columns (w - 1) m 0)
-      → l₂ ≡ put l at (plain w m n)
-  zero_written l₂ m n none e₂ =
-      let blanks = columns-length w 32 0 in
-      let same : length l₁ ≡ length l = ap length e ∙ put-length l at (columns w 32 0) (omega arith) in
-      rw none (e₂ ∙ plain_turn l₁ at w m 0 some (omega arith) ∙ over (plain w m 0) (plain-length w m 0))
-
-  pub digits_written : (l₂ : List ℕ) (m n : ℕ) → (n ≡ 0 → ⊥) → l₂ ≡ put l₁ at (columns w m n)
-      → l₂ ≡ put l at (plain w m n)
-  unfolding plain columns
-  digits_written l₂ m n h e₂ =
-      e₂ ∙ over (columns w m n) (columns-length w m n) ∙ ap (put l at) (digits w some)
-    where
-      -- A number that is not 0 has a digit in the last column by itself.
-      digits : (i : ℕ) → 0 < i → columns i m n ≡ plain i m n
-      digits zero p = absurd (omega arith)
-      digits (suc i) p = rw (next_mark-digit n m h, glyph-digit n m h)

@@ -9,7 +9,7 @@ use lib.Seq.{length-take-le, get_or-take}
 use Rattle.text.specs.Writes.{put}
 use Rattle.text.specs.Decimals.{columns, plain}
 use Rattle.text.specs.Inner.Stages.{Blank, pair, four}
-use Rattle.text.proofs.WriteLaws.{put_before, put_all, two_stored, front_written}
+use Rattle.text.proofs.WriteLaws.{put_before, put_all, front_written}
 use Rattle.text.proofs.DecimalLaws.{glyph_zero, glyph-digit, next_mark_zero, next_mark-digit, columns-length}
 use Rattle.text.proofs.DecimalLaws.{columns_turn, plain_turn, plain-length, blank_set, blank_end}
 
@@ -60,14 +60,6 @@ blank_put l l₁ at i j k xs h le room within e n lt =
     (get_or-append (take k l) (xs ++ drop (k + length xs) l) 0 (at + n) (omega arith)
     ∙ get_or-take k l (at + n) 0 (omega arith)
     ∙ h n (omega arith))
-
--- The two stores of a pair.
-pub pair_stored : (l : List ℕ) (at n : ℕ) → n < 100 → at + 2 ≤ length l
-    → set (set l at (48 + n / 10)) (at + 1) (48 + (n - n / 10 * 10)) ≡ put l at (pair n)
-pair_stored l at n small room =
-    let tens : 48 + n / 10 ≡ 48 + n / 10 % 10 = omega arith in
-    let ones : 48 + (n - n / 10 * 10) ≡ 48 + n % 10 = omega arith in
-    two_stored l at _ _ room ∙ ap₂ (λ (x y : ℕ). put l at (x ∷ y ∷ [])) tens ones
 
 -- Columns that end with two digits, and with four.
 columns_two : (j m r : ℕ) → 10 ≤ r → columns (suc (suc j)) m r ≡ columns j m (r / 100) ++ pair r

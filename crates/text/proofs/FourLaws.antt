@@ -1,5 +1,5 @@
--- Four digits as the bytes of one number. The tens of two pairs that stand side by side are taken at once; four stores
--- of the number's bytes are a write of the digits. No assumptions.
+-- Four digits as the bytes of one number. The tens of two pairs that stand side by side are taken at once; the
+-- number's bytes are the digits. No assumptions.
 use Prim.Native.Nat.{ℕ, ◌+◌, ◌-◌, ◌*◌, ◌/◌, ◌%◌, ◌≤◌, ◌<◌}
 use mathlib.Core.List.{[], ◌∷◌}
 use mathlib.Core.Path.{◌≡◌, refl, ap, ap₂, ◌∙◌}

@@ -1,5 +1,5 @@
--- Laws of `put`: writes one behind the other are one write, stores are a write, a write over a write, over all of a text
--- and over a part of one. Then of `put_within` and `copied`. Sequences of writes go by `grow` and `store`. No assumptions.
+-- Laws of `put`: writes one behind the other are one write, stores are a write, a write over all of a text, over a part
+-- of one and over its beginning. Then of `put_within` and `copied`. Sequences of writes go by `grow` and `store`. No assumptions.
 use Prim.Native.Nat.{ℕ, ◌+◌, ◌≤◌, ◌<◌}
 use mathlib.Core.Bool.{false, ◌&&◌}
 use mathlib.Core.List.{List, [], ◌∷◌, ◌++◌, append_assoc, append-nil}
@@ -12,7 +12,7 @@ use borrow.Rule.Slice.PartMut.{put_mid}
 use lib.Dec.{leb}
 use lib.ListN.{length, take, drop, set, get_or, length-append, length-take, length-drop, take-append-drop}
 use lib.ListN.{get_or-append}
-use lib.Seq.{sets, sets-eq, take-add, take_at, take-suc, drop_at, drop-drop, drop-length, drop-append-add}
+use lib.Seq.{sets, sets-eq, take-add, take_at, drop_at, drop-drop, drop-length, drop-append-add}
 use lib.Seq.{length-take-le, get_or-append-add}
 use Rattle.text.specs.Writes.{put, put_within, copied}
 
@@ -51,14 +51,6 @@ front_written l ys xs w long e = rw (e, zero-add (length xs), long) refl
 behind : (a b xs : List ℕ) (k : ℕ) → length a ≡ k → put (a ++ b) k xs ≡ a ++ (xs ++ drop (length xs) b)
 unfolding put
 behind a b xs k e = rw (take_at a b k e, ← e, drop-append-add)
-
--- Of two writes to one place, of one length, the second stays.
-pub put_over : (l : List ℕ) (at : ℕ) (xs ys : List ℕ) → at + length xs ≤ length l → length ys ≡ length xs
-    → put (put l at xs) at ys ≡ put l at ys
-unfolding put
-put_over l at xs ys h e =
-    behind (take at l) (xs ++ drop (at + length xs) l) ys at (length-take-le at l (omega arith))
-    ∙ rw (e, drop_at xs (drop (at + length xs) l) (length xs) refl)
 
 -- Two writes are one: the second behind the first, with the length of the first as a number.
 pub grow : (l l₁ : List ℕ) (at n m : ℕ) (xs ys : List ℕ) → length xs ≡ n → m ≡ at + n → at + n ≤ length l
@@ -121,10 +113,3 @@ module _ (from : List ℕ) (count : ℕ) (to : List ℕ) where
   pub copied_refused : leb count (length from) && leb count (length to) ≡ false → copied from count to ≡ to
   unfolding copied
   copied_refused e = rw e refl
-
--- One byte more is copied.
-pub copied_turn : (from to l : List ℕ) (i : ℕ) → i < length from → i < length to → l ≡ put to 0 (take i from)
-    → set l i (get_or from i 0) ≡ put to 0 (take (i + 1) from)
-copied_turn from to l i h k e =
-    rw (add-one i, take-suc from i 0)
-    (store to l 0 i i (get_or from i 0) (take i from) (length-take-le i from (omega arith)) (omega arith) (omega arith) e)

@@ -1,6 +1,6 @@
 // Inner functions of the writer: blanks first, then the digits from the last on to the left, four at a time as long as
 // there are four before them, and the mark. Each writes the columns before what is already there.
-ghost use Rattle.std.specs.Prelude.{◌≡◌, ◌<◌, length};
+ghost use Rattle.std.specs.Prelude.{◌≡◌, ◌<◌, length, replicate};
 ghost use Rattle.text.specs.Decimals.{glyph, next_mark, columns, plain, mark_of};
 ghost use Rattle.text.specs.Inner.Stages.{Blank};
 
@@ -49,7 +49,7 @@ pub(crate) fn write_singles(out: &mut [u8], mark: u8, n: u64)
     }
 }
 
-// The digits of n and its mark in columns that hold blanks.
+// The digits of n and its mark in columns that hold blanks, four a turn. The walk is over the digits, not the columns.
 fn write_columns(out: &mut [u8], mark: u8, n: u64)
     requires { Blank out.old 0 (length out.old) }
     ensures { out.new ≡ columns (length out.old) mark n }
@@ -69,12 +69,21 @@ fn write_columns(out: &mut [u8], mark: u8, n: u64)
     write_pairs(&mut out[..i], mark, rest as u32);
 }
 
+// Blanks in all columns, by a loop: `fill` clones the blank and stores the last one apart, and a record takes longer.
+fn write_blanks(out: &mut [u8])
+    ensures { out.new ≡ replicate (length out.old) 32 }
+{
+    for column in out.iter_mut() {
+        *column = b' ';
+    }
+}
+
 // n over all of some columns, with the mark before its first digit.
 pub(crate) fn write_plain(out: &mut [u8], mark: u8, n: u64)
     requires { 0 < length out.old }
     ensures { out.new ≡ plain (length out.old) mark n }
 {
-    out.fill(b' ');
+    write_blanks(out);
     if n == 0 {
         let before = out.len() - 1;
         out[before] = b'0';

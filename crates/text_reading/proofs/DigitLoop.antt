@@ -3,18 +3,16 @@
 -- assumptions.
 use Prim.Native.Nat.{ℕ, zero, suc, ◌+◌, ◌-◌, ◌*◌, ◌^◌, ◌≤◌, ◌<◌}
 use mathlib.Core.Bool.{Bool, true, false, ◌&&◌}
-use mathlib.Core.List.{List, []}
+use mathlib.Core.List.{List}
 use mathlib.Core.Logic.{◌⊎◌, inl, inr, ⊎_elim}
-use mathlib.Core.Path.{◌≡◌, refl, sym, ap, ◌∙◌}
+use mathlib.Core.Path.{◌≡◌, refl, ap, ◌∙◌}
 use native.Mathlib.Decide.{dec_lt}
 use native.Mathlib.Nat.{lt_of_lt_of_le, one-le-pow, pow-suc, pow-le-pow_right}
 use native.Mathlib.Omega.{arith}
 use borrow.Author.Tests.{le-leb, lt-leb, ne_eqb, eq-eqb}
 use lib.Dec.{leb}
-use lib.ListN.{length, take, drop, get_or, length-take, length-drop}
+use lib.ListN.{length, take, get_or}
 use Rattle.std.specs.Prelude.{Some, None}
-use Rattle.std.specs.Simd.{first_chunks}
-use Rattle.std.proofs.lemmas.List.{get_or-take, get_or-drop}
 use Rattle.text_reading.specs.Reading.{bad, most, is_digit, digit, other, next, run_on, start}
 use Rattle.text_reading.specs.Reading.{signed, finish, value_of}
 use Rattle.text_reading.specs.Inner.Digits.{largest, digits_seen}
@@ -130,52 +128,6 @@ module _ (t : List ℕ) (m i v k : ℕ) (h : DigitsRead t m i v k) (l : k + 1 < 
           → value_of t ≡ None
       at true e q = digits_not t m i _ (k + 1) (digits_more t m i v k h (omega arith) e) l q
       at false e q = digits_not t m i v k h (omega arith) e
-
--- The bytes of t from i on, as the loops read them: two by two, and one by one what is left.
-module _ (t : List ℕ) (i : ℕ) where
-  abbrev behind : List ℕ
-  behind = take (length t - i) (drop i t)
-
-  byte_behind : (j : ℕ) → i + j < length t → get_or behind j 0 ≡ get_or t (i + j) 0
-  byte_behind j l = get_or-take (length t - i) (drop i t) j 0 (omega arith) ∙ get_or-drop i t j 0
-
-  pub behind-length : length behind ≡ length t - i
-  behind-length = simp (length-take, length-drop) (omega arith)
-
-  pub pair_byte : (ps : List (List ℕ)) (n j b : ℕ) → ps ≡ first_chunks 2 n behind → 2 * n ≤ length t - i → j < n → b < 2
-      → get_or (get_or ps j []) b 0 ≡ get_or t (i + 2 * j + b) 0
-  pair_byte ps n j b e room l h =
-      let place : i + (2 * j + b) ≡ i + 2 * j + b = omega arith in
-      rw e (chunk n j behind l ∙ byte_behind (2 * j + b) (omega arith) ∙ ap (λ (k : ℕ). get_or t k 0) place)
-    where
-      chunk : (n j : ℕ) (l : List ℕ) → j < n → get_or (get_or (first_chunks 2 n l) j []) b 0 ≡ get_or l (2 * j + b) 0
-      chunk zero j l r = absurd (omega arith)
-      chunk (suc n) zero l r =
-          let place : b ≡ 2 * 0 + b = omega arith in get_or-take 2 l b 0 h ∙ ap (λ (k : ℕ). get_or l k 0) place
-      chunk (suc n) (suc j) l r =
-          let place : 2 + (2 * j + b) ≡ 2 * suc j + b = omega arith in
-          chunk n j (drop 2 l) (omega arith) ∙ get_or-drop 2 l (2 * j + b) 0 ∙ ap (λ (k : ℕ). get_or l k 0) place
-
-  pub last_byte : (l : List ℕ) (n j k : ℕ) → l ≡ drop n behind → i + n + j ≡ k → k < length t
-      → get_or l j 0 ≡ get_or t k 0
-  last_byte l n j k e place h =
-      let at : i + (n + j) ≡ k = omega arith in
-      rw e (get_or-drop n behind j 0 ∙ byte_behind (n + j) (omega arith) ∙ ap (λ (k : ℕ). get_or t k 0) at)
-
--- Two digits, as the loop reads them.
-pub pair_read : (t : List ℕ) (m i v j a b : ℕ) → DigitsRead t m i v (i + 2 * j) → i + 2 * j + 1 < length t
-    → a ≡ get_or t (i + 2 * j + 0) 0
-    → b ≡ get_or t (i + 2 * j + 1) 0
-    → is_digit a ≡ true
-    → is_digit b ≡ true
-    → DigitsRead t m i (v * 100 + ((a - 48) * 10 + (b - 48))) (i + 2 * (j + 1))
-pair_read t m i v j a b h l ea eb da db =
-    let k = i + 2 * j in
-    let here : k + 0 ≡ k = omega arith in
-    let next : k + 2 ≡ i + 2 * (j + 1) = omega arith in
-    let first : a ≡ get_or t k 0 = ea ∙ ap (λ (n : ℕ). get_or t n 0) here in
-    let read = digits_two t m i v k h l (ap is_digit (sym first) ∙ da) (ap is_digit (sym eb) ∙ db) in
-    rw (first, eb, ← next) read
 
 -- More digits than 19 are none: their value, without a zero before them, is not below 10^19 then.
 module _ (t : List ℕ) (i m : ℕ) (h : DigitsFrom t i m) (some : get_or t i 0 ≡ 48 → ⊥) where

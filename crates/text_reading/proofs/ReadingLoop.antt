@@ -1,20 +1,17 @@
 -- What the reading functions do at each byte: the blanks, the mark, a zero. `stuck` is a return at a byte that no
 -- decimal has there, `ended` the end of the text. The digits after them: DigitLoop.antt. No assumptions.
-use Prim.Native.Nat.{ℕ, zero, suc, ◌+◌, ◌≤◌, ◌<◌}
-use mathlib.Core.Bool.{Bool, true, false, true≢false}
+use Prim.Native.Nat.{ℕ, ◌+◌, ◌≤◌, ◌<◌}
+use mathlib.Core.Bool.{Bool, true, false}
 use mathlib.Core.List.{List, ◌++◌}
 use mathlib.Core.Path.{◌≡◌, refl, sym, ap, ◌∙◌}
 use native.Mathlib.Numerals.{add-one}
 use native.Mathlib.Omega.{arith}
-use borrow.Author.Tests.{ne_eqb, eq-eqb, eqb-true, eqb-false}
+use borrow.Author.Tests.{ne_eqb, eqb-true, eqb-false}
 use lib.Dec.{eqb}
 use lib.IntN.{pos}
-use Rattle.std.specs.List.{prefix_len}
-use Rattle.std.proofs.lemmas.List.Folds.{length-prefix_len}
-use Rattle.std.proofs.lemmas.List.Sums.{prefix_len-le-length, prefix_len_passes, prefix_len_stops}
 use lib.ListN.{length, take, drop, get_or, take-append-drop}
 use lib.Seq.{take-suc, take_all}
-use Rattle.std.specs.Prelude.{◌==◌, Some, None, take_while}
+use Rattle.std.specs.Prelude.{Some, None}
 use Rattle.text_reading.specs.Reading.{Seen, cols, lone_zero, bad, digit, other, next, run_on, start}
 use Rattle.text_reading.specs.Reading.{finish, value_of}
 use Rattle.text_reading.specs.Inner.Stages.{LeadingBlanks, DigitsFrom}
@@ -47,28 +44,11 @@ after_zero : (b : ℕ) → next lone_zero b ≡ bad
 unfolding next
 after_zero b = refl
 
--- The blanks that a text begins with, and what comes after them.
-abbrev pub blank : ℕ → Bool
-blank b = b == 32
-
-blanks_run : (t : List ℕ) (i : ℕ) → ((k : ℕ) → k < i → blank (get_or t k 0) ≡ true) → i ≤ length t
-    → run_on start (take i t) ≡ cols 32 0
-unfolding run_on next
-blanks_run t zero h l = refl
-blanks_run t (suc i) h l =
-    ap (λ (n : ℕ). run_on start (take n t)) (sym (add-one i))
-    ∙ run_turn t i (cols 32 0) (omega arith) (blanks_run t i (λ k b. h k (omega arith)) (omega arith))
-    ∙ ap (next (cols 32 0)) (eqb-true (get_or t i 0) 32 (h i (omega arith)))
-
-pub leading_blanks : (t : List ℕ) → LeadingBlanks t (length (take_while blank t))
-leading_blanks t =
-    rw length-prefix_len
-    (record {
-      within = prefix_len-le-length blank t;
-      seen =
-          blanks_run t (prefix_len blank t) (λ k h. prefix_len_passes blank t k 0 h) (prefix_len-le-length blank t);
-      stop = λ l e. true≢false (sym (eq-eqb _ 32 e) ∙ prefix_len_stops blank t 0 l);
-    })
+-- The loop over the blanks, and what comes after it.
+pub blanks_turn : (t : List ℕ) (i : ℕ) → i < length t → get_or t i 0 ≡ 32 → run_on start (take i t) ≡ cols 32 0
+    → run_on start (take (i + 1) t) ≡ cols 32 0
+unfolding next
+blanks_turn t i l e h = run_turn t i (cols 32 0) l h ∙ ap (next (cols 32 0)) e
 
 pub digits_from_minus : (t : List ℕ) (i : ℕ) → LeadingBlanks t i → i < length t → get_or t i 0 ≡ 45
     → DigitsFrom t (i + 1) 45

@@ -7,9 +7,9 @@ use Rattle.text.proofs.writing.write_plain.Goals as goal
 
 pub write_mark-requires : goal.write_mark-requires
 write_mark-requires c =
-    let l = c.fill.new.self in
-    let long = c.fill.ensures.len in
-    let blank = blanks_filled l _ (c.fill.ensures.after (λ y e. e)) in
+    let l = c.write_blanks.new.out in
+    let long = c.write_blanks.auto.out in
+    let blank = blanks_filled l _ c.write_blanks.ensures in
     let stored = set l (length l - 1) 48 in
     let kept : length stored ≡ length l = length-set l (length l - 1) 48 in
     blank_first stored (length l - 1) (length l - 1)
@@ -17,16 +17,16 @@ write_mark-requires c =
 
 pub returns-then-n-eq0 : goal.returns-then-n-eq0
 returns-then-n-eq0 c =
-    let long = c.fill.ensures.len in
-    zero_first c.fill.new.self _ c.args.mark (omega arith) c.write_mark.ensures
+    let long = c.write_blanks.auto.out in
+    zero_first c.write_blanks.new.out _ c.args.mark (omega arith) c.write_mark.ensures
     ∙ ap₂ (λ (w n : ℕ). plain w c.args.mark n) long (sym c.if-n-eq0.true)
 
 pub write_columns-requires : goal.write_columns-requires
-write_columns-requires c = blanks_filled c.fill.new.self _ (c.fill.ensures.after (λ y e. e))
+write_columns-requires c = blanks_filled c.write_blanks.new.out _ c.write_blanks.ensures
 
 pub returns : goal.returns
 returns c =
-    let long = c.fill.ensures.len in
+    let long = c.write_blanks.auto.out in
     c.write_columns.ensures
-    ∙ digits_plain (length c.fill.new.self) c.args.mark c.args.n (omega arith) c.if-n-eq0.false
+    ∙ digits_plain (length c.write_blanks.new.out) c.args.mark c.args.n (omega arith) c.if-n-eq0.false
     ∙ ap (λ (w : ℕ). plain w c.args.mark c.args.n) long

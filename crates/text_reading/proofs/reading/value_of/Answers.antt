@@ -1,21 +1,17 @@
 -- `value_of` meets its contract: the blanks, then a minus or none, then the digits. No assumptions.
-use mathlib.Core.Path.{transport}
-use Rattle.std.proofs.Common.{arith, sym, ap}
-use Rattle.text_reading.specs.Inner.Stages.{LeadingBlanks}
-use Rattle.text_reading.proofs.ReadingLoop.{leading_blanks, digits_from_minus, digits_from_blanks}
+use Rattle.std.proofs.Common.{arith}
+use Rattle.text_reading.proofs.ReadingLoop.{digits_from_minus, digits_from_blanks}
 use Rattle.text_reading.proofs.reading.value_of.Goals as goal
 use Rattle.text_reading.proofs.reading.value_of.Goals.{else-start-columns-via-then-start-columns+else-columns-start-eq45, else-start-columns-via-else-start-columns}
 
 pub value_after-requires : goal.value_after-requires
 value_after-requires c =
-    let t = c.args.columns.now in
-    let found = transport (ap (LeadingBlanks t) (sym c.blanks-start.ensures)) (leading_blanks t) in
+    let found = c.blanks-start.ensures in
     digits_from_minus _ _ found c.if-start-columns.true c.if-columns-start-eq45.true
 
 pub value_after-requires-else-start-columns : goal.value_after-requires-else-start-columns
 value_after-requires-else-start-columns c =
-    let t = c.args.columns.now in
-    let found = transport (ap (LeadingBlanks t) (sym c.blanks-start.ensures)) (leading_blanks t) in
+    let found = c.blanks-start.ensures in
     digits_from_blanks _ _ found
     (elim c.else-start-columns.branch [
       | else-start-columns-via-then-start-columns+else-columns-start-eq45 w ↦ λ l. w.if-columns-start-eq45.false
