@@ -9,8 +9,13 @@ use Rattle.stoichiometry.specs.declared.refusals.Refusal.{Refusal}
 use Rattle.stoichiometry.specs.Refusals.{refusal_of, answer_of}
 use Rattle.stoichiometry.specs.Rows.{rows_of}
 use Rattle.stoichiometry.specs.Sets.{set_number}
+use Rattle.stoichiometry.proofs.RefusalLaws.{answer-ok}
+use Rattle.stoichiometry.proofs.SetNumber.{accepted-passes}
 use Rattle.rows.specs.declared.Rows.{Rows}
-use Rattle.rows.specs.Answers.{rows_answer, check_answer}
+use Rattle.rows.specs.Answers.{rows_answer, check_answer, EntriesBounded}
+use Rattle.rows.specs.Changing.{EntriesZero}
+use Rattle.rows.proofs.EntryBounds.{rows_bound}
+use Rattle.rows.proofs.RowZeros.{rows_none}
 
 pub rows_refused : (set : Set) (n : ℕ) → set_number set ≡ suc n → rows_answer set ≡ Err (refusal_of (suc n))
 unfolding rows_answer
@@ -33,3 +38,13 @@ without_is (suc n) rows = rw (eqb-suc-zero n) refl
 pub checked : (set : Set) (r : Result Rows Refusal) → r ≡ rows_answer set → without r ≡ check_answer set
 unfolding rows_answer check_answer
 checked set r e = ap without e ∙ without_is (set_number set) (record { entries = rows_of set })
+
+-- The rows of an answer are bounded, and have no entry for a substance that a process may not change.
+pub answer_entries : (set : Set) (rows : Rows) → Ok rows ≡ rows_answer set
+    → EntriesBounded rows.entries × EntriesZero rows.entries
+unfolding rows_answer
+answer_entries set rows e =
+    let known = answer-ok (set_number set) _ rows e in
+    let right = accepted-passes set known.0 in
+    let entries = ap (λ (r : Rows). r.entries) known.1 in
+    rw entries (rows_bound set right.0 right.1, rows_none set)
