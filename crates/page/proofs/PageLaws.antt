@@ -1,19 +1,19 @@
 -- Laws of the page of a river: every row is one, rows begin at 65 × (cell − 1), the page has 65 bytes a cell; the letter
 -- of a row is the one that `letter_of` answers; every level of a river that check 4 passes is in bounds. No assumptions.
 use Prim.Native.Nat.{ℕ, zero, suc, ◌+◌, ◌-◌, ◌*◌, ◌/◌, ◌≤◌, ◌<◌, zero-le}
-use mathlib.Core.Bool.{Bool, true, false, not, cond}
+use mathlib.Core.Bool.{true, false, not}
 use mathlib.Core.List.{List, [], ◌∷◌, map}
 use mathlib.Core.Path.{◌≡◌, refl, sym, ap, ◌∙◌}
 use native.Mathlib.Omega.{arith}
 use borrow.Author.Tests.{not-true}
-use lib.Dec.{ltb, lit<}
+use lib.Dec.{lit<}
 use lib.IntN.{ℤ}
 use lib.ListN.{length, take, drop, get_or}
 use lib.Seq.{get_or-take, get_or-drop}
 use Rattle.std.specs.Prelude.{Ok}
 use Rattle.numeric.specs.Check.{every, first_holding}
 use Rattle.numeric.proofs.CheckLaws.{every_at}
-use Rattle.stoichiometry.specs.Substances.{Substance, substances, o2, nh4, place}
+use Rattle.stoichiometry.specs.Substances.{Substance, substances, place}
 use Rattle.stoichiometry.specs.Levels.{level_of, most_level}
 use Rattle.stoichiometry.specs.Totals.{amount_at}
 use Rattle.stoichiometry.proofs.Contents.{place_lt}
@@ -78,8 +78,8 @@ module _ (r : River) (cell : ℕ) (exists : cell_exists r cell ≡ true) where
       let at = (cell - 1) * row_bytes in (
         rw (right, exists),
         sym (get_or-drop at (page_of r) 3 0)
-        ∙ sym (get_or-take row_bytes (drop at (page_of r)) 3 0 (lit< tt))
-        ∙ ap (λ (t : List ℕ). get_or t 3 0) page_row,
+            ∙ sym (get_or-take row_bytes (drop at (page_of r)) 3 0 (lit< tt))
+            ∙ ap (λ (t : List ℕ). get_or t 3 0) page_row,
       )
 
 -- The levels of a river that check 4 passes are in bounds, and what the writer asks of a cell holds.

@@ -8,7 +8,7 @@ use crate::reading::{read_cells, size_fits};
 use numeric::in_range;
 use record::Record;
 use river::{AMOUNTS, CARRIES, River};
-use stoichiometry::{Refusal, refusal};
+use stoichiometry::Refusal;
 
 mod reading;
 
@@ -43,9 +43,9 @@ pub fn number_of_cell(text: &[u8], cell: u32) -> u32
         Err(refusal) => refusal.number(),
         Ok(river) => {
             if in_range(1, river.cells, cell) {
-                refusal::NONE
+                0
             } else {
-                refusal::PLACE
+                Refusal::Place.number()
             }
         }
     }
@@ -55,7 +55,7 @@ pub fn number_of_cell(text: &[u8], cell: u32) -> u32
 pub fn lines_of_cell(text: &[u8], cell: u32) -> &[u8]
     ensures answer { result.now ≡ cell_lines text.now cell }
 {
-    if number_of_cell(text, cell) == refusal::NONE {
+    if number_of_cell(text, cell) == 0 {
         let start = (cell - 1) as usize * Record::CELL_BYTES;
         let end = start + Record::CELL_BYTES;
         return &text[start..end];

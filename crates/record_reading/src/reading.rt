@@ -12,7 +12,7 @@ ghost use Rattle.record_reading.specs.Inner.Stages.{amounts_stored, carries_stor
 use numeric::both;
 use record::Record;
 use river::{AMOUNTS, CARRIES, River};
-use stoichiometry::{PROCESSES, SUBSTANCES, refusal};
+use stoichiometry::{PROCESSES, SUBSTANCES};
 use text::two_columns;
 use text_reading::read_decimal;
 

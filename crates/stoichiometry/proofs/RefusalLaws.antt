@@ -1,6 +1,6 @@
 -- What an answer tells of the number that it is made by (specs/Refusals.antt). No assumptions.
 use Prim.Native.Nat.{ℕ, zero, suc}
-use mathlib.Core.Path.{◌≡◌, refl, sym, ap, ◌∙◌}
+use mathlib.Core.Path.{◌≡◌, refl, ap, ◌∙◌}
 use native.Mathlib.Omega.{arith}
 use lib.Dec.{eqb-suc-zero}
 use Rattle.std.specs.Prelude.{Result, Ok, Err, is_ok}

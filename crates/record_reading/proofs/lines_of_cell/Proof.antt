@@ -14,15 +14,15 @@ use Rattle.record_reading.proofs.lines_of_cell.Tie as tie
 abbrev begun : tie.After-number_of_cell → tie.Start
 begun c = c.before.before
 
-number : (c : tie.Then-number_of_cell-eq-NONE) → cell_number (begun c.before).args.text.now (begun c.before).args.cell ≡ 0
-number c = sym c.before.number_of_cell.ensures ∙ c.if-number_of_cell-eq-NONE.true
+number : (c : tie.Then-number_of_cell-eq0) → cell_number (begun c.before).args.text.now (begun c.before).args.cell ≡ 0
+number c = sym c.before.number_of_cell.ensures ∙ c.if-number_of_cell-eq0.true
 
-within : (c : tie.Then-number_of_cell-eq-NONE)
+within : (c : tie.Then-number_of_cell-eq0)
     → let args = (begun c.before).args in
     (1 ≤ args.cell) × ((args.cell - 1) * cell_bytes + cell_bytes ≤ length args.text.now)
 within c = let args = (begun c.before).args in cell-within args.text.now args.cell (number c)
 
-returns : tie.Need-returns-then-number_of_cell-eq-NONE
+returns : tie.Need-returns-then-number_of_cell-eq0
 returns c =
     let args = (begun c.before.before).args in
     let start = (args.cell - 1) * cell_bytes in
@@ -34,7 +34,7 @@ returns_2 : tie.Need-returns
 returns_2 c =
     let called = c.before.before in
     let args = (begun called).args in
-    sym (lines_none args.text.now args.cell (λ z. c.before.if-number_of_cell-eq-NONE.false (called.number_of_cell.ensures ∙ z)))
+    sym (lines_none args.text.now args.cell (λ z. c.before.if-number_of_cell-eq0.false (called.number_of_cell.ensures ∙ z)))
 
 pub lines_of_cell_spec : {M : Type 1} → statement M
 lines_of_cell_spec =

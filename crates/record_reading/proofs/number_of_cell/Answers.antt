@@ -26,4 +26,5 @@ unfolding river_in
 returns-else-in_range c =
     let read = read-record c.args.text.now c.in-Ok.river (sym c.in-Ok.ensures.answer) in
     let cells = ap (λ (r : River). in_range 1 r.cells c.args.cell) read.1 in
-    record { answer = sym (cell_refused c.args.text.now c.args.cell read.0 (cells ∙ sym c.if-in_range.ensures)) }
+    let none = cell_refused c.args.text.now c.args.cell read.0 (cells ∙ sym c.if-in_range.ensures) in
+    record { answer = c.number-else-in_range.ensures.answer ∙ sym none }
