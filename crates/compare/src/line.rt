@@ -56,9 +56,9 @@ impl Line {
         self.numbers.get(place).copied().unwrap_or(0)
     }
 
-    // A number of 32 bits, or the largest of them.
+    // A number of 32 bits without its sign, or the largest of them.
     pub(crate) fn figure(&self, place: usize) -> u32 {
-        u32::try_from(self.signed(place)).unwrap_or(u32::MAX)
+        u32::try_from(self.signed(place).unsigned_abs()).unwrap_or(u32::MAX)
     }
 
     // A number that is a place or a length.

@@ -49,22 +49,20 @@ impl fmt::Display for Tally {
     }
 }
 
-// The figure of a cell, with a sign, digits and a point; none of a cell with no digit, which is a blank. A figure with
-// too many digits is out of reach of any entry.
+// The figure of a cell, with a sign, digits and a point; none of a cell whose digits are 0, which is a blank. A figure
+// with too many digits is out of reach of any entry.
 fn figure_of(cell: &str) -> Option<Figure> {
     let mut figure = Figure {
         negative: false,
         digits: 0,
         scale: 1,
     };
-    let mut has_digit = false;
     let mut has_point = false;
     for byte in cell.bytes() {
         match byte {
             b'-' => figure.negative = true,
             b'.' => has_point = true,
             b'0'..=b'9' => {
-                has_digit = true;
                 let tenfold = figure.digits.saturating_mul(10);
                 figure.digits = tenfold.saturating_add(u64::from(byte - b'0'));
                 if has_point {
@@ -74,7 +72,7 @@ fn figure_of(cell: &str) -> Option<Figure> {
             _ => {}
         }
     }
-    has_digit.then_some(figure)
+    (figure.digits > 0).then_some(figure)
 }
 
 // Writes a line for each row of the table and one for all of them. A line that begins with no number, as the heading
