@@ -2,7 +2,7 @@
 #![tactic(auto)]
 
 ghost use Rattle.std.specs.Prelude.{◌≡◌};
-ghost use Rattle.river.specs.Rivers.{amount_fits, amounts_fit, river_fits, fresh_answer};
+ghost use Rattle.river.specs.Rivers.{river_fits, fresh_answer};
 ghost use Rattle.river.specs.Cells.{byte, letter_by, letter_answer};
 
 use crate::carries::carries_fit;
@@ -13,6 +13,8 @@ use stoichiometry::{PROCESSES, Refusal, SUBSTANCES, place};
 mod amounts;
 mod carries;
 mod cells;
+
+pub use crate::amounts::{amount_fits, amounts_fit};
 
 // The amounts and the carries of all cells.
 pub const AMOUNTS: usize = River::CELLS_MOST * SUBSTANCES;
@@ -66,10 +68,9 @@ impl River {
     pub fn fits(&self) -> bool
         ensures answer { result ≡ river_fits self.now.cells self.now.amounts self.now.carries }
     {
-        let n = self.cells as usize;
         in_range(1, River::CELLS_MOST as u32, self.cells)
-            && amounts::amounts_fit(n, &self.amounts)
-            && carries_fit(n, &self.carries)
+            && amounts_fit(self.cells, &self.amounts)
+            && carries_fit(self.cells, &self.carries)
     }
 }
 
@@ -92,32 +93,6 @@ impl Letter {
         ensures answer { result ≡ byte self }
     {
         self as u8
-    }
-}
-
-// An amount of the substance at a place, counted from 0, is in its bounds. From place 18 on, where there is none, only
-// 0 is.
-#[tactic(auto, using(crate::proofs::Bounds::none_tested))]
-pub fn amount_fits(place: usize, amount: i64) -> bool
-    ensures answer { result ≡ amount_fits place amount }
-{
-    if place < SUBSTANCES {
-        amounts::amount_fits(place, amount)
-    } else {
-        amount == 0
-    }
-}
-
-// The amounts of a river's cells are in their bounds, all others are 0. A number of cells above 8 is taken for 8.
-#[tactic(auto, using(crate::proofs::Rivers::amounts_beyond))]
-pub fn amounts_fit(cells: u32, amounts: &[i64; AMOUNTS]) -> bool
-    ensures answer { result ≡ amounts_fit cells amounts.now }
-{
-    let n = cells as usize;
-    if n <= River::CELLS_MOST {
-        amounts::amounts_fit(n, amounts)
-    } else {
-        amounts::amounts_fit(River::CELLS_MOST, amounts)
     }
 }
 
