@@ -3,7 +3,7 @@
 use Prim.Native.Nat.{ℕ, zero, suc, ◌+◌, ◌-◌, ◌*◌, ◌/◌, ◌%◌, ◌^◌, ◌≤◌, ◌<◌}
 use mathlib.Core.List.{List, [], ◌∷◌, zip_with}
 use mathlib.Core.Path.{◌≡◌, refl, sym, ap, ap₂, ◌∙◌}
-use native.Mathlib.Nat.{zero-add, add_comm, mul_comm, pow-suc, mod-eq_of_lt, zero-div, div-div-eq-div-mul}
+use native.Mathlib.Nat.{zero-add, add_comm, mul_comm, pow-suc, mod-eq_of_lt, div-eq_of_lt, le-div_iff_mul-le, zero-div, div-div-eq-div-mul}
 use native.Mathlib.Omega.{arith}
 use lib.ListN.{length, get_or}
 use lib.Bits.{bit_and, bit_or, and_block, and_mask, and_zero_r, or_block, or_zero_r}
@@ -72,6 +72,19 @@ mark_byte : (r : ℕ) → mark_at r < 256
 unfolding mark_at
 mark_byte zero = omega arith
 mark_byte (suc r) = omega arith
+
+-- The mark of a column by the number: a blank where none of it is left, else a zero.
+pub mark_blank : (n d : ℕ) → n < d → mark_at (n / d) ≡ 32
+unfolding mark_at
+mark_blank n d small = rw (div-eq_of_lt small) refl
+
+mark_some : (r : ℕ) → 1 ≤ r → mark_at r ≡ 48
+unfolding mark_at
+mark_some zero h = absurd (omega arith)
+mark_some (suc r) h = refl
+
+pub mark_digit : (n d : ℕ) → 0 < d → d ≤ n → mark_at (n / d) ≡ 48
+mark_digit n d some large = mark_some (n / d) ((le-div_iff_mul-le some).1 (omega arith))
 
 -- Bytes joined one by one.
 byte_joined : (a b r s : ℕ) → a < 256 → b < 256 → bit_or (a + r * 256) (b + s * 256) ≡ bit_or a b + bit_or r s * 256

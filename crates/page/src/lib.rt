@@ -40,10 +40,9 @@ pub fn write_page(river: River, output: &mut [u8]) -> Result<(), Refusal>
     if !river.fits() {
         return Err(Refusal::River);
     }
-    let n = river.cells as usize;
-    if output.len() < n * Page::ROW_BYTES {
+    if output.len() < river.cells as usize * Page::ROW_BYTES {
         return Err(Refusal::Page);
     }
-    write_rows(output, n, &river.amounts);
+    write_rows(output, &river);
     Ok(())
 }

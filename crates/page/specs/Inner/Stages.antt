@@ -1,8 +1,7 @@
 -- What the inner functions of the writer hand to each other. Laws: proofs/FigureLaws.antt. No assumptions.
-use Rattle.std.specs.Prelude.{ℕ, zero, suc, ◌+◌, ◌/◌, ◌%◌, ◌≤◌, ◌<◌, List, [], ◌∷◌, ◌≡◌, ℤ, pos, nat_abs, length, get_or, ◌≤ℤ◌}
-use Rattle.stoichiometry.specs.Substances.{substances, most_grains, o2, place}
+use Rattle.std.specs.Prelude.{ℕ, zero, suc, ◌+◌, ◌/◌, ◌%◌, ◌≤◌, ◌<◌, List, [], ◌∷◌, ◌≡◌, ℤ, length, get_or}
 use Rattle.stoichiometry.specs.Levels.{most_level}
-use Rattle.stoichiometry.specs.Totals.{amount_at}
+use Rattle.river.specs.Rivers.{most_cells}
 use Rattle.text.specs.Blocks.{blocks}
 use Rattle.text.specs.Decimals.{glyph}
 use Rattle.page.specs.Pages.{grams, levels_at}
@@ -29,17 +28,11 @@ abbrev pub marks_of : ℕ → List ℕ
 marks_of whole =
     mark_at (whole / 1000) ∷ mark_at (whole / 100) ∷ mark_at (whole / 10) ∷ 48 ∷ 46 ∷ 48 ∷ 48 ∷ 48 ∷ []
 
--- An amount x of the substance at place s is not negative and its level, by what a µg is, is in bounds.
-abbrev pub LevelFits : ℤ → ℕ → ℕ → Type 0
-LevelFits x s microgram =
-    (s < substances) × (0 < microgram) × (pos 0 ≤ℤ x) × (nat_abs x / microgram ≤ most_level)
-
 -- Six levels, in bounds.
 abbrev pub LevelsWithin : List ℕ → Type 0
 LevelsWithin levels = (length levels ≡ 6) × ((i : ℕ) → get_or levels i 0 ≤ most_level)
 
--- The amounts of cell c up to O2 are not negative and in the bounds of grains, and its levels are in bounds.
-abbrev pub CellFits : List ℤ → ℕ → Type 0
-CellFits amounts c =
-    ((s : ℕ) → s ≤ place o2 → (pos 0 ≤ℤ amount_at amounts c s) × (nat_abs (amount_at amounts c s) ≤ most_grains))
-    × LevelsWithin (levels_at amounts c)
+-- Cell c is one of those that a river has room for, and its levels are in bounds.
+pub record CellFits (amounts : List ℤ) (c : ℕ) : Type 0 where
+  pub cell : c < most_cells
+  pub levels : LevelsWithin (levels_at amounts c)
