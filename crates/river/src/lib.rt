@@ -6,13 +6,11 @@ ghost use Rattle.river.specs.Rivers.{river_fits, fresh_answer};
 ghost use Rattle.river.specs.Cells.{byte, letter_by, letter_answer};
 
 use crate::carries::carries_fit;
-use crate::cells::letter;
 use numeric::in_range;
-use stoichiometry::{PROCESSES, Refusal, SUBSTANCES, place};
+use stoichiometry::{Microgram, PROCESSES, Refusal, SUBSTANCES, place};
 
 mod amounts;
 mod carries;
-mod cells;
 
 pub use crate::amounts::{amount_fits, amounts_fit};
 
@@ -112,7 +110,7 @@ pub fn letter_by(oxygen: u64, ammonium: u64) -> Letter
 
 // The letter of a cell, 1 to the number of cells: L where the level of O2 is below 2,000,000 µg, N where that of NH4 is
 // above 1,000,000 µg, else a hyphen. Refuses with 4 and 5.
-#[tactic(auto, unfolding(crate::specs::Cells::letter_answer, crate::specs::Cells::letter_number, crate::specs::Cells::letter_of, crate::specs::Rivers::river_wrong, numeric::specs::Check::first_holding))]
+#[tactic(auto, unfolding(crate::specs::Cells::letter_answer, crate::specs::Cells::letter_number, crate::specs::Cells::letter_of, crate::specs::Rivers::river_wrong, stoichiometry::specs::Levels::level_of, numeric::specs::Check::first_holding))]
 pub fn letter_of(river: River, cell: u32) -> Result<Letter, Refusal>
     ensures answer { result ≡ letter_answer river cell }
 {
@@ -123,7 +121,7 @@ pub fn letter_of(river: River, cell: u32) -> Result<Letter, Refusal>
         return Err(Refusal::Place);
     }
     let start = (cell - 1) as usize * SUBSTANCES;
-    let oxygen = river.amounts[start + place::O2];
-    let ammonium = river.amounts[start + place::NH4];
-    Ok(letter(oxygen, ammonium))
+    let oxygen = Microgram::Oxygen.level(river.amounts[start + place::O2]);
+    let ammonium = Microgram::Nitrogen.level(river.amounts[start + place::NH4]);
+    Ok(letter_by(oxygen, ammonium))
 }
