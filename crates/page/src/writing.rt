@@ -5,9 +5,8 @@ ghost use Rattle.stoichiometry.specs.Levels.{in_microgram, most_level};
 ghost use Rattle.stoichiometry.specs.Totals.{amount_at};
 ghost use Rattle.river.specs.Rivers.{river_wrong};
 ghost use Rattle.text.specs.Writes.{put};
-ghost use Rattle.text.specs.Inner.Stages.{packed};
 ghost use Rattle.page.specs.Pages.{level_columns, row_bytes, grams, row, levels_at, row_of, page_of};
-ghost use Rattle.page.specs.Inner.Stages.{levels_text, figures_of, marks_of, CellFits, LevelsWithin};
+ghost use Rattle.page.specs.Inner.Stages.{levels_text, pair_of, justified_of, whole_of, CellFits, LevelsWithin};
 
 use crate::Page;
 use river::{AMOUNTS, River, letter_by};
@@ -28,16 +27,17 @@ struct Cell<'a> {
 
 impl Cell<'_> {
     // The level of the substance at place s, µg, rounded down.
-    fn level(&self, s: usize, microgram: Microgram) -> u64
-        requires { s < substances }
+    fn level(&self, s: usize, microgram: Microgram) -> u32
+        requires place { s < substances }
+        requires within { nat_abs (amount_at self.now.amounts.now self.now.c s) / in_microgram microgram ≤ most_level }
         ensures { result ≡ nat_abs (amount_at self.now.amounts.now self.now.c s) / in_microgram microgram }
     {
-        microgram.level(self.amounts[self.c * SUBSTANCES + s])
+        microgram.level(self.amounts[self.c * SUBSTANCES + s]) as u32
     }
 
     // The levels that a row has, in its order.
     #[tactic(auto, unfolding(crate::specs::Pages::levels_at, stoichiometry::specs::Levels::level_of))]
-    fn levels(&self) -> [u64; Page::LEVELS]
+    fn levels(&self) -> [u32; Page::LEVELS]
         ensures { result ≡ levels_at self.now.amounts.now self.now.c }
     {
         [
@@ -51,55 +51,64 @@ impl Cell<'_> {
     }
 }
 
-// What stands in the last eight columns of a level of so many whole grams where its digits are 0, as the bytes of one
-// number, the first lowest: blanks before the first digit, zeros, and the point.
-#[tactic(auto, using(crate::proofs::FigureLaws::mark_blank, crate::proofs::FigureLaws::mark_digit))]
-fn marks(grams: u64) -> u64
-    ensures { result ≡ packed (marks_of grams) }
+// The numbers below 100 in two columns: with both digits, and with a blank for a first digit of 0.
+static PAIRS: [u8; 200] =
+    *b"00010203040506070809101112131415161718192021222324252627282930313233343536373839404142434445464748495051525354555657585960616263646566676869707172737475767778798081828384858687888990919293949596979899";
+
+static JUSTIFIED: [u8; 200] =
+    *b" 0 1 2 3 4 5 6 7 8 9101112131415161718192021222324252627282930313233343536373839404142434445464748495051525354555657585960616263646566676869707172737475767778798081828384858687888990919293949596979899";
+
+#[tactic(auto, using(crate::proofs::FigureLaws::pair_at))]
+fn pair(n: u32) -> [u8; 2]
+    requires { n < 100 }
+    ensures { result ≡ pair_of n }
 {
-    if grams < 10 {
-        0x3030302e30202020
-    } else if grams < 100 {
-        0x3030302e30302020
-    } else if grams < 1000 {
-        0x3030302e30303020
-    } else {
-        0x3030302e30303030
-    }
+    let at = n as usize * 2;
+    [PAIRS[at], PAIRS[at + 1]]
 }
 
-// The last eight columns of a level, as the bytes of one number. Grams and thousandths stand side by side in it, then
-// their pairs of digits, then their digits, so that the hundreds of both and the tens of all four pairs are taken at
-// once: 5243 / 524288 is a hundredth of a number up to 1,024, 103 / 1024 a tenth of one below 100, rounded down, and
-// the masks drop parts of a whole. The thousandths have no fourth digit: the point stands in its place.
-#[tactic(auto, using(crate::proofs::FigureLaws::hundreds_le, crate::proofs::FigureLaws::pairs_lt, crate::proofs::FigureLaws::tens_le, crate::proofs::FigureLaws::figures_are))]
-fn figures(level: u64) -> u64
-    requires { level ≤ most_level }
-    ensures { result ≡ packed (figures_of level) }
+#[tactic(auto, using(crate::proofs::FigureLaws::justified_at))]
+fn justified(n: u32) -> [u8; 2]
+    requires { n < 100 }
+    ensures { result ≡ justified_of n }
 {
-    let thousandths = level / 1000;
-    let grams = thousandths / 1000;
-    let halves = grams + (thousandths - grams * 1000) * 4294967296;
-    let hundreds = halves * 5243 / 524288 & 0x0000007f0000007f;
-    let pairs = hundreds + (halves - hundreds * 100) * 65536;
-    let tens = pairs * 103 / 1024 & 0x000f000f000f000f;
-    let digits = tens + (pairs - tens * 10) * 256;
-    // Joined and not added, so that a compiler stores the bytes of the number at once.
-    digits | marks(grams)
+    let at = n as usize * 2;
+    [JUSTIFIED[at], JUSTIFIED[at + 1]]
 }
 
-// A level over its columns.
-fn write_grams(columns: &mut [u8], level: u64)
-    requires { (length columns.old ≡ level_columns) × (level ≤ most_level) }
-    ensures { columns.new ≡ grams level }
+// The whole grams of a level over their four columns.
+fn write_whole(columns: &mut [u8], grams: u32)
+    requires { (length columns.old ≡ 4) × (grams < 10000) }
+    ensures { columns.new ≡ whole_of grams }
 {
     columns[0] = b' ';
     columns[1] = b' ';
-    columns[2..].copy_from_slice(&figures(level).to_le_bytes());
+    if grams < 100 {
+        columns[2..].copy_from_slice(&justified(grams));
+    } else {
+        columns[..2].copy_from_slice(&justified(grams / 100));
+        columns[2..].copy_from_slice(&pair(grams % 100));
+    }
+}
+
+// A level over its columns.
+fn write_grams(columns: &mut [u8], level: u32)
+    requires { (length columns.old ≡ level_columns) × (level ≤ most_level) }
+    ensures { columns.new ≡ grams level }
+{
+    let thousandths = level / 1000;
+    let grams = thousandths / 1000;
+    let rest = thousandths - grams * 1000;
+    columns[0] = b' ';
+    columns[1] = b' ';
+    write_whole(&mut columns[2..6], grams);
+    columns[6] = b'.';
+    columns[7] = b'0' + (rest / 100) as u8;
+    columns[8..].copy_from_slice(&pair(rest % 100));
 }
 
 // The levels of a row over their columns.
-fn write_levels(text: &mut [u8], levels: &[u64; Page::LEVELS])
+fn write_levels(text: &mut [u8], levels: &[u32; Page::LEVELS])
     requires { (length text.old ≡ 6 * level_columns) × LevelsWithin levels.now }
     ensures { text.new ≡ levels_text levels.now 6 }
 {
@@ -110,7 +119,7 @@ fn write_levels(text: &mut [u8], levels: &[u64; Page::LEVELS])
 }
 
 // A row over its bytes.
-fn write_row(text: &mut [u8], cell: u8, letter: u8, levels: &[u64; Page::LEVELS])
+fn write_row(text: &mut [u8], cell: u8, letter: u8, levels: &[u32; Page::LEVELS])
     requires { (length text.old ≡ row_bytes) × (cell < 10) × LevelsWithin levels.now }
     ensures { text.new ≡ row cell letter levels.now }
 {
@@ -128,7 +137,7 @@ fn write_cell(text: &mut [u8], cell: &Cell)
     ensures { text.new ≡ row_of cell.now.amounts.now cell.now.c }
 {
     let levels = cell.levels();
-    let letter = letter_by(levels[OXYGEN], levels[AMMONIUM]);
+    let letter = letter_by(u64::from(levels[OXYGEN]), u64::from(levels[AMMONIUM]));
     write_row(text, (cell.c + 1) as u8, letter.byte(), &levels);
 }
 

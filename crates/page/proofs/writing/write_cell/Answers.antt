@@ -17,5 +17,6 @@ returns c =
     let letter_is : c.byte.result ≡ byte (letter_of cell.amounts.now cell.c) =
     c.byte.ensures.answer
     ∙ ap byte c.letter_by-letter.ensures.answer
+    ∙ ap byte (ap₂ letter_by c.from.ensures c.from-2.ensures)
     ∙ ap (λ (l : List ℕ). byte (letter_by (get_or l 5 0) (get_or l 1 0))) levels_are in
     c.write_row.ensures ∙ ap₂ (row (cell.c + 1)) letter_is levels_are
