@@ -1,17 +1,19 @@
 -- Laws of the page of a river: every row is one, rows begin at 65 × (cell − 1), the page has 65 bytes a cell; the letter
 -- of a row is the one that `letter_of` answers; every level of a river that check 4 passes is in bounds. No assumptions.
 use Prim.Native.Nat.{ℕ, zero, suc, ◌+◌, ◌-◌, ◌*◌, ◌/◌, ◌≤◌, ◌<◌, zero-le}
-use mathlib.Core.Bool.{true, false}
+use mathlib.Core.Bool.{true, false, not}
 use mathlib.Core.List.{List, [], ◌∷◌, map}
 use mathlib.Core.Path.{◌≡◌, refl, sym, ap, ◌∙◌}
 use native.Mathlib.Omega.{arith}
+use borrow.Author.Tests.{not-true}
 use lib.Dec.{lit<}
 use lib.IntN.{ℤ}
 use lib.ListN.{length, take, drop, get_or}
 use lib.Seq.{get_or-take, get_or-drop}
 use Rattle.std.specs.Prelude.{Ok}
-use Rattle.numeric.specs.Check.{first_holding}
-use Rattle.stoichiometry.specs.Substances.{Substance, place}
+use Rattle.numeric.specs.Check.{every, first_holding}
+use Rattle.numeric.proofs.CheckLaws.{every_at}
+use Rattle.stoichiometry.specs.Substances.{Substance, substances, place}
 use Rattle.stoichiometry.specs.Levels.{level_of, most_level}
 use Rattle.stoichiometry.specs.Totals.{amount_at}
 use Rattle.stoichiometry.proofs.Contents.{place_lt}
@@ -20,6 +22,8 @@ use Rattle.river.specs.Rivers.{river_wrong, cell_exists}
 use Rattle.river.specs.declared.Letter.{Letter}
 use Rattle.river.specs.declared.Letter.TheVariants.{LowOxygen, HighAmmonium, Neither}
 use Rattle.river.specs.Cells.{byte, letter_of, letter_number, letter_answer}
+use Rattle.river.specs.Inner.Runs.{net_at}
+use Rattle.river.proofs.Bounds.{fits-level}
 use Rattle.river.proofs.Levels.{level_bound}
 use Rattle.river.proofs.Rivers.{river-cells, amount_fits_at, cell_bound}
 use Rattle.text.specs.Blocks.{part}
@@ -94,7 +98,18 @@ module _ (r : River) (right : river_wrong r ≡ false) (c : ℕ) (inside : c < r
       each (s ∷ l) (suc i) = each l i
 
   pub cell_fits_lem : CellFits r.amounts c
-  cell_fits_lem = let most = (river-cells r right).1 in record { cell = omega arith; levels = (six r.amounts c, levels_bound) }
+  unfolding every
+  cell_fits_lem =
+      let most = (river-cells r right).1 in
+      record {
+        cell = omega arith;
+        small = λ s h.
+            let within : s < substances = omega arith in
+            let counted = every_at 7 s (λ k. not (net_at k)) refl (omega arith) in
+            (fits-level s (amount_at r.amounts c s) within (not-true (net_at s) counted)
+            (amount_fits_at r right c s inside within)).1;
+        levels = (six r.amounts c, levels_bound);
+      }
 
   -- So each takes at most 8 of its 10 columns, and shows every digit down to the thousandth of a gram.
   pub levels-shown : (i : ℕ)

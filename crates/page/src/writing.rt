@@ -51,7 +51,8 @@ impl Cell<'_> {
     }
 }
 
-// The numbers below 100 in two columns: with both digits, and with a blank for a first digit of 0.
+// The numbers below 100 in two columns: with both digits, and with a blank for a first digit of 0. By tables, since with
+// computed digits a page takes a third longer.
 static PAIRS: [u8; 200] =
     *b"00010203040506070809101112131415161718192021222324252627282930313233343536373839404142434445464748495051525354555657585960616263646566676869707172737475767778798081828384858687888990919293949596979899";
 
@@ -98,6 +99,7 @@ fn write_grams(columns: &mut [u8], level: u32)
 {
     let thousandths = level / 1000;
     let grams = thousandths / 1000;
+    // Not `thousandths % 1000`, with which a page takes longer.
     let rest = thousandths - grams * 1000;
     columns[0] = b' ';
     columns[1] = b' ';

@@ -1,6 +1,8 @@
 -- What the inner functions of the writer hand to each other. Laws: proofs/FigureLaws.antt. No assumptions.
-use Rattle.std.specs.Prelude.{ℕ, ◌+◌, ◌/◌, ◌%◌, ◌≤◌, ◌<◌, List, [], ◌∷◌, ◌++◌, ◌≡◌, ℤ, length, get_or}
+use Rattle.std.specs.Prelude.{ℕ, ◌+◌, ◌/◌, ◌%◌, ◌≤◌, ◌<◌, List, [], ◌∷◌, ◌++◌, ◌≡◌, ℤ, nat_abs, length, get_or}
+use Rattle.stoichiometry.specs.Substances.{most_grains, o2, place}
 use Rattle.stoichiometry.specs.Levels.{most_level}
+use Rattle.stoichiometry.specs.Totals.{amount_at}
 use Rattle.river.specs.Rivers.{most_cells}
 use Rattle.text.specs.Blocks.{blocks}
 use Rattle.text.specs.Decimals.{glyph}
@@ -31,7 +33,9 @@ figures_of level =
 abbrev pub LevelsWithin : List ℕ → Type 0
 LevelsWithin levels = (length levels ≡ 6) × ((i : ℕ) → get_or levels i 0 ≤ most_level)
 
--- Cell c is one of those that a river has room for, and its levels are in bounds.
+-- Cell c is one of those that a river has room for, its amounts up to O2 are in the bounds of grains, and its levels are
+-- in bounds.
 pub record CellFits (amounts : List ℤ) (c : ℕ) : Type 0 where
   pub cell : c < most_cells
+  pub small : (s : ℕ) → s ≤ place o2 → nat_abs (amount_at amounts c s) ≤ most_grains
   pub levels : LevelsWithin (levels_at amounts c)
