@@ -46,7 +46,7 @@ impl Figures {
 
 // The fractions of an organic, counted from 0 to 7.
 fn fractions(figures: &Figures, organic: usize) -> Fractions {
-    let [carbon, hydrogen, oxygen, nitrogen, phosphorus] = figures.part(organic % 8 * 5);
+    let [carbon, hydrogen, oxygen, nitrogen, phosphorus]: [u32; 5] = figures.part(organic % 8 * 5);
     Fractions {
         carbon,
         hydrogen,
@@ -71,7 +71,7 @@ fn organics(figures: &Figures) -> Organics {
 
 impl From<&Figures> for Set {
     fn from(figures: &Figures) -> Set {
-        let [bacteria, algae] = figures.part(47);
+        let [bacteria, algae]: [u32; 2] = figures.part(47);
         Set {
             fractions: organics(figures),
             yields: Yields::from(figures.part(40)),
