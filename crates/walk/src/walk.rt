@@ -18,6 +18,8 @@ pub(crate) struct Walk {
     book: Book,
 }
 
+// Its calls stand in worked_example's `Day` too: a crate for both would have to promise what they print, and book of a
+// walk what a day does not.
 impl Walk {
     pub(crate) fn start() -> std::result::Result<Walk, Refusal> {
         let set = published_set()?;

@@ -42,6 +42,7 @@ pub(crate) struct Day {
     river: River,
 }
 
+// Its calls stand in walk's `Walk` too, with a book: a crate for both would have to promise what they print.
 impl Day {
     pub(crate) fn start(rt: &impl Print) -> Result<Day> {
         let river = River::fresh(CELLS)?;
