@@ -46,11 +46,11 @@ impl Text {
     }
 
     // Puts numbers, as bytes, from a place on, where all of them are in the room.
-    pub(crate) fn put(&mut self, place: usize, numbers: &[i64]) {
+    pub(crate) fn put(&mut self, place: usize, numbers: &[u64]) {
         let end = place.saturating_add(numbers.len());
         if let Some(bytes) = self.bytes.get_mut(place..end) {
             for (byte, number) in bytes.iter_mut().zip(numbers) {
-                *byte = (*number & 0xff) as u8;
+                *byte = (*number % 256) as u8;
             }
         }
     }
