@@ -6,8 +6,8 @@ use std::fmt;
 // More numbers than a line has: the figures of a set. The digits of further numbers are those of the last.
 const ROOM: usize = 96;
 
-// A line as far as it is read. Its numbers are kept without their signs, and need no heap, which would be one thing more
-// to trust.
+// A line as far as it is read. Its numbers are kept without their signs, and need no heap, which would be one thing
+// more to trust.
 #[derive(Drop)]
 pub(crate) struct Line {
     pub letter: u8,
