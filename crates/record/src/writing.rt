@@ -66,8 +66,8 @@ fn write_cell(
     }
 }
 
-// The lines of the first n cells. Where the cells are taken from the amounts, by `zip`, the loop ends at the shorter of
-// both, so that all n are written by the same fact: n is at most as many as there are.
+// The lines of the first n cells. The bound of n stays a clause: a loop over the cells of the amounts by `zip` would end
+// at the shorter of both, and that it makes n turns says the same.
 pub(crate) fn write_cells(
     out: &mut [u8],
     n: usize,

@@ -20,7 +20,8 @@ pub fn write_value(columns: &mut [u8], value: i64)
     write_plain(columns, mark_of(value), magnitude(value));
 }
 
-// The value in `width` columns from `at` on, where they are all there.
+// The value in `width` columns from `at` on, where they are all there. Kept beside `write_value` for callers that have a
+// place and a width: no place and no width is wrong, and one that is past the end is tested here.
 pub fn write_decimal(out: &mut [u8], at: usize, width: usize, value: i64)
     ensures out { out.new ≡ put_within out.old at (decimal width value) }
 {
@@ -41,7 +42,7 @@ pub fn two_columns(n: u32) -> [u8; 2]
     [if n < 10 { b' ' } else { tens }, ones]
 }
 
-// n in two columns from `at` on, where both are there.
+// n in two columns from `at` on, where both are there. Kept beside `two_columns`, as `write_decimal` is.
 pub fn write_two(out: &mut [u8], at: usize, n: u32)
     ensures out { out.new ≡ put_within out.old at (plain 2 32 n) }
 {
