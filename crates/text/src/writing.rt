@@ -1,5 +1,5 @@
-// Inner functions of the writer: blanks first, then the digits from the last on to the left, four at a time as long as
-// there are four before them, and the mark. Each writes the columns before what is already there.
+// Inner functions of the writer: blanks first, then over the last of them the digits from the last on to the left, four
+// at a time as long as there are four before them, and the mark. The columns before the mark stay as they are.
 ghost use Rattle.std.specs.Prelude.{◌≡◌, length, replicate};
 ghost use Rattle.text.specs.Decimals.{plain, mark_of};
 ghost use Rattle.text.specs.Inner.Stages.{digits_over};
