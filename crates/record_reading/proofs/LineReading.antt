@@ -2,20 +2,21 @@
 -- and what is read as a value is the line of it (`value_line`). Then a line as the code reads it: what stands before the
 -- value, the line feed, the value. No assumptions.
 use Prim.Native.Nat.{ℕ, ◌≤◌}
-use mathlib.Core.Bool.{Bool, true, false, ◌&&◌, cond, true≢false}
+use mathlib.Core.Bool.{Bool, true, false, ◌&&◌, cond, and-true, true≢false}
 use mathlib.Core.List.{List, [], ◌∷◌, ◌++◌, append_assoc}
 use mathlib.Core.Path.{◌≡◌, refl, sym, ap, ap₂, ◌∙◌}
 use native.Mathlib.Omega.{arith}
 use borrow.Author.Tests.{eqb-true, eq-eqb}
 use lib.Dec.{eqb, ltb}
 use lib.IntN.{ℤ, pos, neg_ℤ, nat_abs}
-use lib.ListN.{length, take, get_or, length-append, length-take, length-drop}
-use lib.Pointwise.{pointwise}
+use lib.ListN.{length, get_or, length-append, length-take, length-drop}
 use lib.Seq.{take_at, take_all, drop_at, take-add, take-suc, get_or_at}
 use lib.Signed.{le_z}
 use Rattle.numeric.proofs.CheckLaws.{and_left, and_right}
 use Rattle.numeric.proofs.Machine.{kept}
 use Rattle.std.specs.Prelude.{Option, Some, None, is_some, unwrap_or, option_and_then}
+use Rattle.text.proofs.BlockLaws.{part-tab}
+use Rattle.numeric.specs.Table.{tab}
 use Rattle.text.specs.Blocks.{part}
 use Rattle.text.specs.Decimals.{columns, plain, decimal}
 use Rattle.text_reading.specs.Reading.{parse}
@@ -92,28 +93,38 @@ value_line l cell k lowest highest = go (parse lowest highest (part 6 20 l)) (pa
         at true same e = (same_true l (line cell k z) same, text.from, text.to)
         at false same e = absurd (true≢false (sym e))
 
--- Byte for byte, as the library compares slices.
-same_pointwise : (xs ys : List ℕ) → pointwise eqb xs ys ≡ same_bytes xs ys
-unfolding same_bytes
-same_pointwise [] [] = refl
-same_pointwise [] (y ∷ ys) = refl
-same_pointwise (x ∷ xs) [] = refl
-same_pointwise (x ∷ xs) (y ∷ ys) = ap (λ (b : Bool). eqb x y && b) (same_pointwise xs ys)
+-- What stands before a value of a text, byte by byte: the columns of the cell, a blank, those of the line, a blank.
+front_read : (l : List ℕ) (cell k : ℕ) → 6 ≤ length l
+    → same_bytes (part 0 6 l) (front cell k)
+    ≡ (eqb (get_or l 0 0) (get_or (plain 2 32 cell) 0 0)
+    && (eqb (get_or l 1 0) (get_or (plain 2 32 cell) 1 0)
+    && (eqb (get_or l 2 0) 32
+    && (eqb (get_or l 3 0) (get_or (plain 2 32 k) 0 0)
+    && (eqb (get_or l 4 0) (get_or (plain 2 32 k) 1 0) && eqb (get_or l 5 0) 32)))))
+unfolding same_bytes tab front plain columns
+front_read l cell k h = rw (part-tab l 0 6 h) (rw and-true)
 
--- What stands before a value: the columns of the cell, a blank, those of the line, a blank.
-front_bytes : (cell k : ℕ)
-    → get_or (plain 2 32 cell) 0 0 ∷ get_or (plain 2 32 cell) 1 0 ∷ 32
-    ∷ get_or (plain 2 32 k) 0 0 ∷ get_or (plain 2 32 k) 1 0 ∷ 32 ∷ []
-    ≡ front cell k
-unfolding front plain columns
-front_bytes cell k = refl
+-- Six tests one after the other.
+and_six : (a b c d e f : Bool) → (a && b && c && d && e && f) ≡ (a && (b && (c && (d && (e && f)))))
+and_six false b c d e f = refl
+and_six true false c d e f = refl
+and_six true true false d e f = refl
+and_six true true true false e f = refl
+and_six true true true true e f = refl
 
--- A text's first bytes are compared with these.
-pub front_compared : (l a b : List ℕ) (cell k : ℕ) → a ≡ plain 2 32 cell → b ≡ plain 2 32 k
-    → pointwise eqb (take 6 l) (get_or a 0 0 ∷ get_or a 1 0 ∷ 32 ∷ get_or b 0 0 ∷ get_or b 1 0 ∷ 32 ∷ [])
+-- The first six bytes are compared with the columns of the cell and of the line.
+pub front_compared : (l a b : List ℕ) (cell k : ℕ) → 6 ≤ length l → a ≡ plain 2 32 cell → b ≡ plain 2 32 k
+    → (eqb (get_or l 0 0) (get_or a 0 0)
+    && eqb (get_or l 1 0) (get_or a 1 0)
+    && eqb (get_or l 2 0) 32
+    && eqb (get_or l 3 0) (get_or b 0 0)
+    && eqb (get_or l 4 0) (get_or b 1 0)
+    && eqb (get_or l 5 0) 32)
     ≡ same_bytes (part 0 6 l) (front cell k)
-front_compared l a b cell k ea eb =
-    rw (ea, eb) (same_pointwise (take 6 l) _ ∙ ap (same_bytes (take 6 l)) (front_bytes cell k))
+front_compared l a b cell k h ea eb =
+    and_six (eqb (get_or l 0 0) (get_or a 0 0)) (eqb (get_or l 1 0) (get_or a 1 0)) (eqb (get_or l 2 0) 32)
+    (eqb (get_or l 3 0) (get_or b 0 0)) (eqb (get_or l 4 0) (get_or b 1 0)) (eqb (get_or l 5 0) 32)
+    ∙ rw (ea, eb) (sym (front_read l cell k h))
 
 -- The limits of a line's value as the machine keeps them.
 pub limits_kept : (k : ℕ) → (kept (lowest_on k) ≡ lowest_on k) × (kept (highest_on k) ≡ highest_on k)

@@ -22,7 +22,7 @@ fn front_right(line: &[u8], cell: u32, place: u32) -> bool
 {
     let [c0, c1] = two_columns(cell);
     let [p0, p1] = two_columns(place);
-    line[..6] == [c0, c1, b' ', p0, p1, b' ']
+    (line[0], line[1], line[2], line[3], line[4], line[5]) == (c0, c1, b' ', p0, p1, b' ')
 }
 
 // The limits of the value on line k, counted from 0: any amount, or a carry.

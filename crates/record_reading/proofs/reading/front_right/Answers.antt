@@ -6,4 +6,5 @@ use Rattle.record_reading.proofs.reading.front_right.Goals as goal
 pub returns : goal.returns
 returns c =
     c.eq.ensures
-    ∙ front_compared c.args.line.now _ _ c.args.cell c.args.place c.two_columns.ensures.columns c.two_columns-2.ensures.columns
+    ∙ front_compared c.args.line.now _ _ c.args.cell c.args.place c.requires c.two_columns.ensures.columns
+    c.two_columns-2.ensures.columns
