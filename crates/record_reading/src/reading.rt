@@ -15,7 +15,8 @@ use stoichiometry::{PROCESSES, SUBSTANCES};
 use text::two_columns;
 use text_reading::read_decimal;
 
-// What stands before the value of the line is its cell and its place.
+// What stands before the value of the line is its cell and its place. As tuples: slices and arrays are compared by a call
+// of the library, and a record is then read in a seventh more.
 fn front_right(line: &[u8], cell: u32, place: u32) -> bool
     requires { 6 ≤ length line.now }
     ensures { result ≡ same_bytes (part 0 6 line.now) (front cell place) }
@@ -56,7 +57,8 @@ fn line_value(line: &[u8], cell: u32, k: usize) -> Option<i64>
 }
 
 // The amounts and then the carries of cell c, counted from 0, if each of its lines has its value. One loop over all
-// lines, so that a line is read from one place only and the compiler sets the reading of it into the loop.
+// lines, so that a line is read from one place only and the compiler sets the reading of it into the loop. The cell is
+// told by its number: by chunks it would be three, of the text, the amounts and the carries, zipped and counted.
 fn read_cell(
     text: &[u8],
     c: usize,

@@ -39,7 +39,7 @@ fn is_digit(b: u8) -> bool
     b.is_ascii_digit()
 }
 
-// The value of a digit. In 64 bits from the start: with `b - b'0'` in 8 a record is read in a quarter more.
+// The value of a digit. In 64 bits from the start: with `b - b'0'` in 8 a record is read in a fifteenth more.
 fn digit(b: u8) -> u64
     requires { (48 ≤ b) × (b ≤ 57) }
     ensures { result ≡ b - 48 }
