@@ -1,36 +1,35 @@
 -- Totals of a cell: a turn of the loop that adds them up; what a cell of a right river holds under an accepted set is
 -- small enough to be added in 64 bits; the number of a call by that of the set. No assumptions.
-use Prim.Native.Nat.{ℕ, zero, suc, ◌-◌, ◌<◌, ◌≤◌, ◌+◌, ◌*◌, ◌^◌}
-use mathlib.Core.Bool.{true, false, not, cond}
-use mathlib.Core.List.{List, [], ◌∷◌}
+use Prim.Native.Nat.{ℕ, zero, suc, ◌-◌, ◌<◌, ◌≤◌, ◌+◌, ◌*◌, ◌/◌, ◌^◌}
+use mathlib.Core.Bool.{Bool, true, false, not, cond}
+use mathlib.Core.List.{List, [], ◌∷◌, map}
 use mathlib.Core.Path.{◌≡◌, refl, sym, ap, ◌∙◌}
+use native.Mathlib.Nat.{zero-add}
 use native.Mathlib.Omega.{arith}
-use borrow.Author.Tests.{eqb-true}
-use lib.Dec.{eqb, eqb-suc-zero}
+use borrow.Author.Tests.{eqb-true, leb-true}
+use lib.Dec.{eqb, leb, eqb-suc-zero, lit<}
 use lib.IntN.{ℤ, pos, nat_abs, ◌+ℤ◌, ◌*ℤ◌}
-use lib.ListN.{get_or}
-use lib.Signed.{mag}
-use mir.Facts.{to_z-of_z}
-use mir.Syntax.{w64}
-use mir.Val.{SFits, to_z}
+use lib.ListN.{length, get_or, take, drop}
+use Rattle.std.proofs.lemmas.List.{get_or-take, get_or-drop, drop-drop}
+use Rattle.std.specs.Simd.{first_chunks}
 use Rattle.numeric.specs.Check.{all_of, ◌when◌, first_holding}
 use Rattle.numeric.specs.Sum.{sum}
-use Rattle.numeric.specs.Table.{tab}
-use Rattle.numeric.proofs.Bounds.{fits_abs, abs_add, abs_at, abs_mul_le}
-use Rattle.numeric.proofs.CheckLaws.{abs_all_at, first_append}
-use Rattle.numeric.proofs.Machine.{kept, kept_is}
-use Rattle.numeric.proofs.SumLaws.{sum_more, added, sum-within, added_le}
-use Rattle.numeric.proofs.TableLaws.{get_or-tab, AtMost, done, ◌also◌, at_most_at}
+use Rattle.numeric.proofs.Bounds.{abs_at, abs_mul_le}
+use Rattle.numeric.proofs.CheckLaws.{all_of_at, first_append}
+use Rattle.numeric.proofs.SumLaws.{sum-none, sum_more, sum_eq, added, sum-within, added_le}
 use Rattle.stoichiometry.specs.declared.Fractions.{Fractions}
 use Rattle.stoichiometry.specs.declared.Set.{Set}
 use Rattle.stoichiometry.specs.Substances.{Substance, organic, nh4, no2, no3, hpo4, o2, hco3, h_plus, xp, h2o, n2}
+use Rattle.stoichiometry.specs.Substances.{Total, carbon, hydrogen, oxygen, nitrogen, phosphorus, charge, amount_of}
 use Rattle.stoichiometry.specs.Substances.{substances, order, fractions_of, organic_composition, composition_of}
-use Rattle.stoichiometry.specs.Totals.{amount_at}
+use Rattle.stoichiometry.specs.Substances.{held, held_at, contents}
+use Rattle.stoichiometry.specs.Totals.{amount_at, cell_total}
 use Rattle.stoichiometry.specs.Parameters.{adds_up, fractions_wrong}
 use Rattle.stoichiometry.specs.Sets.{set_checks, set_number}
 use Rattle.stoichiometry.proofs.SetNumber.{adds_up_lem}
+use Rattle.stoichiometry.proofs.Totals.{cell_eq}
 use Rattle.river.specs.declared.River.{River}
-use Rattle.river.specs.Rivers.{highest_at, river_wrong, cell_exists}
+use Rattle.river.specs.Rivers.{most_cells, highest_at, river_wrong, cell_exists}
 use Rattle.river.proofs.Bounds.{fits_size}
 use Rattle.river.proofs.Rivers.{amount_fits_at}
 use Rattle.std.specs.Prelude.{Result, Ok, Err}
@@ -39,127 +38,195 @@ use Rattle.stoichiometry.specs.Refusals.{refusal_of}
 use Rattle.rows.specs.Answers.{check_answer}
 use Rattle.totals.specs.declared.Totals.{Totals}
 use Rattle.totals.specs.Totals.{totals_number, totals_in, totals_answer}
-use Rattle.totals.specs.Inner.TotalsCode.{parts, part_of, weights_of, held_by, heaviest, most_held}
-use Rattle.totals.specs.Inner.TotalsCode.{AddableAmounts, AddableTotals}
+use Rattle.totals.specs.Inner.TotalsCode.{as_totals, compositions, total_in, with_amount, heaviest, most_held}
+use Rattle.totals.specs.Inner.TotalsCode.{Addable, AddableAmounts}
 
 -- All that the amounts of a cell may hold: below 2 ^ 63.
 all_held : added substances most_held ≡ 5739840000000000000
 unfolding added most_held highest_at
 all_held = refl
 
--- What an amount holds, as the machine multiplies.
-abbrev machine_held : List ℤ → ℕ → List ℤ → ℕ → ℤ
-machine_held amounts start weights k = kept (get_or amounts (start + k) (pos 0)) *ℤ kept (get_or weights k (pos 0))
+-- A test of each of the six totals.
+each_total : (p : Total → Bool) → all_of p (carbon ∷ hydrogen ∷ oxygen ∷ nitrogen ∷ phosphorus ∷ charge ∷ []) ≡ true
+    → (t : Total) → p t ≡ true
+each_total p e carbon = all_of_at p _ 0 carbon e (lit< tt)
+each_total p e hydrogen = all_of_at p _ 1 carbon e (lit< tt)
+each_total p e oxygen = all_of_at p _ 2 carbon e (lit< tt)
+each_total p e nitrogen = all_of_at p _ 3 carbon e (lit< tt)
+each_total p e phosphorus = all_of_at p _ 4 carbon e (lit< tt)
+each_total p e charge = all_of_at p _ 5 carbon e (lit< tt)
 
--- A turn of the loop over the substances, at place k, as the machine computes it: what the amount holds fits 64 bits,
--- and so does the sum with it, which is the next one.
-pub record SumTurn (amounts : List ℤ) (start : ℕ) (weights : List ℤ) (k total : ℕ) : Type 0 where
-  pub product-fits : SFits w64 (machine_held amounts start weights k)
-  pub sum_fits : SFits w64 (to_z w64 total +ℤ kept (machine_held amounts start weights k))
-  pub next : kept (to_z w64 total +ℤ kept (machine_held amounts start weights k))
-      ≡ sum (k + 1) (held_by amounts start weights)
-
-pub sum_turn : (amounts : List ℤ) (start : ℕ) (weights : List ℤ) → AddableAmounts amounts start weights
-    → (k : ℕ) → k < substances → mag (get_or amounts (start + k) (pos 0)) < 2 ^ 63 → mag (get_or weights k (pos 0)) < 2 ^ 63
-    → (total : ℕ) → to_z w64 total ≡ sum k (held_by amounts start weights) → SumTurn amounts start weights k total
-unfolding held_by
-sum_turn amounts start weights small k h amount_fits_lem weight_fits total so_far =
-    record {
-      product-fits = product-fits;
-      sum_fits = sum_fits;
-      next = to_z-of_z sum_fits ∙ rw (so_far, kept_held, sum_more);
-    }
-  where
-    held : ℤ
-    held = held_by amounts start weights k
-
-    before : ℤ
-    before = sum k (held_by amounts start weights)
-
-    fits : nat_abs held + nat_abs before < 2 ^ 63
-    fits =
-        omega (
-          arith,
-          small.within k h,
-          added_le substances k most_held h,
-          all_held,
-          sum-within k (held_by amounts start weights) most_held (λ j l. small.within j (omega arith)),
-        )
-
-    held-is : machine_held amounts start weights k ≡ held
-    held-is = rw (kept_is (get_or amounts (start + k) (pos 0)) amount_fits_lem, kept_is (get_or weights k (pos 0)) weight_fits)
-
-    product-fits : SFits w64 (machine_held amounts start weights k)
-    product-fits = rw held-is (fits_abs held (omega (arith, fits)))
-
-    kept_held : kept (machine_held amounts start weights k) ≡ held
-    kept_held = to_z-of_z product-fits ∙ held-is
-
-    sum_fits : SFits w64 (to_z w64 total +ℤ kept (machine_held amounts start weights k))
-    sum_fits = rw (so_far, kept_held) (fits_abs (before +ℤ held) (omega (arith, fits, abs_add before held)))
-
--- Grains of an element in a thousandth of a µg of it, and the fractions, both by the place of the total.
-abbrev pub element_grains : List ℤ
-element_grains = pos 26040 ∷ pos 312480 ∷ pos 19530 ∷ pos 22320 ∷ pos 10080 ∷ pos 0 ∷ []
-
-abbrev pub fraction_list : Fractions → List ℕ
-fraction_list f = f.carbon ∷ f.hydrogen ∷ f.oxygen ∷ f.nitrogen ∷ f.phosphorus ∷ 0 ∷ []
-
-pub grains_le : (t : ℕ) → t < 6 → nat_abs (get_or element_grains t (pos 0)) ≤ 312480
-unfolding all_of
-grains_le t h = abs_all_at 312480 element_grains t refl h
-
--- Fractions of at most m each.
-pub fraction_le : (f : Fractions) (m : ℕ) → f.carbon ≤ m → f.hydrogen ≤ m → f.oxygen ≤ m → f.nitrogen ≤ m
-    → f.phosphorus ≤ m → (t : ℕ) → get_or (fraction_list f) t 0 ≤ m
-fraction_le f m c h o n p t =
-    let none : 0 ≤ m = omega arith in
-    let small : AtMost (λ x. x) m (fraction_list f) = c also h also o also n also p also none also done in
-    at_most_at small 0 none t
-
--- What one µg of an organic holds, as the code computes it.
-pub organic-part : (f : Fractions) (t : ℕ) → t < 6
-    → get_or element_grains t (pos 0) *ℤ pos (get_or (fraction_list f) t 0) ≡ get_or (parts (organic_composition f)) t (pos 0)
-unfolding tab
-organic-part f t h = sym (get_or-tab 6 (λ k. get_or element_grains k (pos 0) *ℤ pos (get_or (fraction_list f) k 0)) t (pos 0) h)
-
-organic-light : (f : Fractions) (t : ℕ) → t < 6 → adds_up f ≡ true
-    → nat_abs (get_or (parts (organic_composition f)) t (pos 0)) ≤ 312480000
+-- One µg of an organic holds at most 1,000 thousandths of an element.
+organic-light : (f : Fractions) → adds_up f ≡ true → (t : Total) → nat_abs (amount_of t (organic_composition f)) ≤ 312480000
 unfolding adds_up
-organic-light f t h e =
-    let all : f.carbon + f.hydrogen + f.oxygen + f.nitrogen + f.phosphorus ≡ 1000 = eqb-true _ 1000 e in
-    let fraction : get_or (fraction_list f) t 0 ≤ 1000 =
-    fraction_le f 1000 (omega arith) (omega arith) (omega arith) (omega arith) (omega arith) t in
-    rw (← organic-part f t h) (abs_mul_le (get_or element_grains t (pos 0)) _ (grains_le t h) fraction)
+organic-light f e carbon = omega (arith, eqb-true _ 1000 e)
+organic-light f e hydrogen = omega (arith, eqb-true _ 1000 e)
+organic-light f e oxygen = omega (arith, eqb-true _ 1000 e)
+organic-light f e nitrogen = omega (arith, eqb-true _ 1000 e)
+organic-light f e phosphorus = omega (arith, eqb-true _ 1000 e)
+organic-light f e charge = omega arith
+
+formula_light : (set : Set) (t : Total) (s : Substance)
+    → all_of (λ x. leb (nat_abs (held set x s)) (heaviest s)) (carbon ∷ hydrogen ∷ oxygen ∷ nitrogen ∷ phosphorus ∷ charge ∷ []) ≡ true
+    → nat_abs (held set t s) ≤ heaviest s
+formula_light set t s e = leb-true _ (heaviest s) (each_total (λ x. leb (nat_abs (held set x s)) (heaviest s)) e t)
 
 -- No substance holds more than `heaviest` of a total; the numbers of a formula by computation.
-light : (set : Set) → fractions_wrong set ≡ false → (t : ℕ) → t < 6 → (s : Substance)
-    → nat_abs (part_of set t s) ≤ heaviest s
+light : (set : Set) → fractions_wrong set ≡ false → (t : Total) (s : Substance) → nat_abs (held set t s) ≤ heaviest s
 unfolding all_of
-light set e t h (organic x) = organic-light (fractions_of set x) t h (adds_up_lem set e x)
-light set e t h nh4 = abs_all_at 4 (parts (composition_of set nh4)) t refl h
-light set e t h no2 = abs_all_at 2 (parts (composition_of set no2)) t refl h
-light set e t h no3 = abs_all_at 3 (parts (composition_of set no3)) t refl h
-light set e t h hpo4 = abs_all_at 4 (parts (composition_of set hpo4)) t refl h
-light set e t h o2 = abs_all_at 2 (parts (composition_of set o2)) t refl h
-light set e t h hco3 = abs_all_at 3 (parts (composition_of set hco3)) t refl h
-light set e t h h_plus = abs_all_at 1 (parts (composition_of set h_plus)) t refl h
-light set e t h xp = abs_all_at 4 (parts (composition_of set xp)) t refl h
-light set e t h h2o = abs_all_at 2 (parts (composition_of set h2o)) t refl h
-light set e t h n2 = abs_all_at 2 (parts (composition_of set n2)) t refl h
+light set e t (organic x) = organic-light (fractions_of set x) (adds_up_lem set e x) t
+light set e t nh4 = formula_light set t nh4 refl
+light set e t no2 = formula_light set t no2 refl
+light set e t no3 = formula_light set t no3 refl
+light set e t hpo4 = formula_light set t hpo4 refl
+light set e t o2 = formula_light set t o2 refl
+light set e t hco3 = formula_light set t hco3 refl
+light set e t h_plus = formula_light set t h_plus refl
+light set e t xp = formula_light set t xp refl
+light set e t h2o = formula_light set t h2o refl
+light set e t n2 = formula_light set t n2 refl
+
+-- The amounts of one cell, as the code takes them out.
+abbrev pub cell_amounts : List ℤ → ℕ → List ℤ
+cell_amounts amounts c = take substances (drop (c * substances) amounts)
+
+cell_amount : (amounts : List ℤ) (c s : ℕ) → s < substances → get_or (cell_amounts amounts c) s (pos 0) ≡ amount_at amounts c s
+cell_amount amounts c s h =
+    get_or-take substances (drop (c * substances) amounts) s (pos 0) h
+    ∙ get_or-drop (c * substances) amounts s (pos 0)
+
+chunk_at : (k c : ℕ) (amounts : List ℤ) → c < k → get_or (first_chunks substances k amounts) c [] ≡ cell_amounts amounts c
+chunk_at zero c amounts h = absurd (omega arith)
+chunk_at (suc k) zero amounts h = refl
+chunk_at (suc k) (suc c) amounts h =
+    let next : substances + c * substances ≡ suc c * substances = omega arith in
+    chunk_at k c (drop substances amounts) (omega arith)
+    ∙ rw (drop-drop (c * substances) substances amounts, next) refl
+
+pub chunk_of : (amounts : List ℤ) (cells : List (List ℤ)) (c : ℕ)
+    → cells ≡ first_chunks substances (length amounts / substances) amounts → length amounts ≡ most_cells * substances
+    → c < most_cells → get_or cells c [] ≡ cell_amounts amounts c
+chunk_of amounts cells c e long h = rw e (chunk_at (length amounts / substances) c amounts (omega arith))
+
+first_cell : (amounts : List ℤ) (s : ℕ) → amount_at amounts 0 s ≡ get_or amounts s (pos 0)
+first_cell amounts s = ap (λ (j : ℕ). get_or amounts j (pos 0)) (zero-add s)
+
+-- They hold what the cell holds.
+pub cell_alone : (set : Set) (amounts : List ℤ) (c : ℕ)
+    → totals_in set (cell_amounts amounts c) 0 ≡ totals_in set amounts c
+cell_alone set amounts c =
+    let same : (t : Total) → cell_total set t (cell_amounts amounts c) 0 ≡ cell_total set t amounts c =
+    λ t. cell_eq set t (cell_amounts amounts c) amounts 0 c (λ s l. first_cell (cell_amounts amounts c) s ∙ cell_amount amounts c s l) in
+    λ i.
+    record {
+      carbon = same carbon i;
+      hydrogen = same hydrogen i;
+      oxygen = same oxygen i;
+      nitrogen = same nitrogen i;
+      phosphorus = same phosphorus i;
+      charge = same charge i;
+    }
 
 -- The amounts of a right river's cell under a set of which check 1 does not hold.
 pub cell_addable : (set : Set) (r : River) → fractions_wrong set ≡ false → river_wrong r ≡ false → (c : ℕ) → c < r.cells
-    → AddableTotals set r.amounts (c * substances)
-unfolding held_by weights_of most_held
-cell_addable set r e right c h = record { total = λ t i. record { within = λ s l. small t i s l } }
+    → AddableAmounts set (cell_amounts r.amounts c)
+unfolding contents held_at most_held
+cell_addable set r e right c h = record { within = small }
   where
-    small : (t : ℕ) → t < 6 → (s : ℕ) → s < substances
-        → nat_abs (held_by r.amounts (c * substances) (weights_of set t) s) ≤ most_held s
-    small t i s l =
+    small : (t : Total) (s : ℕ) → s < substances
+        → nat_abs (contents set t s (get_or (cell_amounts r.amounts c) s (pos 0))) ≤ most_held s
+    small t s l =
         let amount = amount_at r.amounts c s in
-        abs_mul_le amount (get_or (weights_of set t) s (pos 0)) (fits_size s amount l (amount_fits_at r right c s h l))
-        (abs_at order (part_of set t) heaviest s (light set e t i))
+        rw (cell_amount r.amounts c s l)
+        (abs_mul_le amount (held_at set t s) (fits_size s amount l (amount_fits_at r right c s h l))
+        (abs_at order (held set t) heaviest s (light set e t)))
+
+-- What the amounts at places below k of a cell hold of each total.
+pub record HeldBelow (set : Set) (amounts : List ℤ) (k : ℕ) (sums : Totals) : Type 0 where
+  pub held_sum : (t : Total) → total_in t sums ≡ sum k (λ s. contents set t s (get_or amounts s (pos 0)))
+
+-- At place k of the compositions stands what the substance there holds.
+composed_at : (set : Set) (t : Total) (l : List Substance) (k : ℕ) (d : Totals) → k < length l
+    → total_in t (get_or (map (λ s. as_totals (composition_of set s)) l) k d) ≡ get_or (map (held set t) l) k (pos 0)
+composed_at set t [] k d h = absurd (omega arith)
+composed_at set carbon (s ∷ l) zero d h = refl
+composed_at set hydrogen (s ∷ l) zero d h = refl
+composed_at set oxygen (s ∷ l) zero d h = refl
+composed_at set nitrogen (s ∷ l) zero d h = refl
+composed_at set phosphorus (s ∷ l) zero d h = refl
+composed_at set charge (s ∷ l) zero d h = refl
+composed_at set t (s ∷ l) (suc k) d h = composed_at set t l k d (omega arith)
+
+with_at : (t : Total) (sums one : Totals) (amount : ℤ)
+    → total_in t (with_amount sums amount one) ≡ total_in t sums +ℤ amount *ℤ total_in t one
+with_at carbon sums one amount = refl
+with_at hydrogen sums one amount = refl
+with_at oxygen sums one amount = refl
+with_at nitrogen sums one amount = refl
+with_at phosphorus sums one amount = refl
+with_at charge sums one amount = refl
+
+-- A turn of the loop over the substances, at place k: the sums with what the amount holds fit 64 bits, and are the
+-- next ones.
+module _ (set : Set) (amounts : List ℤ) (k : ℕ) (sums d : Totals) (h : k < substances) (so_far : HeldBelow set amounts k sums) where
+  abbrev one : Totals
+  one = get_or (compositions set) k d
+
+  product-is : (t : Total) → get_or amounts k (pos 0) *ℤ total_in t one ≡ contents set t k (get_or amounts k (pos 0))
+  unfolding contents held_at compositions
+  product-is t = ap (λ (z : ℤ). get_or amounts k (pos 0) *ℤ z) (composed_at set t order k d h)
+
+  pub turn_fits : AddableAmounts set amounts → Addable sums (get_or amounts k (pos 0)) one
+  turn_fits small = record { fits = fits }
+    where
+      fits : (t : Total) → nat_abs (total_in t sums) + nat_abs (get_or amounts k (pos 0) *ℤ total_in t one) < 2 ^ 63
+      fits t =
+          let at : ℕ → ℤ = λ s. contents set t s (get_or amounts s (pos 0)) in
+          let below = sum-within k at most_held (λ j l. small.within t j (omega arith)) in
+          rw (so_far.held_sum t, product-is t)
+          (omega (arith, small.within t k h, added_le substances k most_held h, all_held, below))
+
+  pub turn_next : HeldBelow set amounts (k + 1) (with_amount sums (get_or amounts k (pos 0)) one)
+  turn_next =
+      record {
+        held_sum = λ t. with_at t sums one (get_or amounts k (pos 0)) ∙ rw (so_far.held_sum t, product-is t, sum_more);
+      }
+
+-- Totals of zeros.
+abbrev pub ZeroTotals : Totals → Type 0
+ZeroTotals t =
+    (t.carbon ≡ pos 0)
+    × ((t.hydrogen ≡ pos 0)
+    × ((t.oxygen ≡ pos 0) × ((t.nitrogen ≡ pos 0) × ((t.phosphorus ≡ pos 0) × (t.charge ≡ pos 0)))))
+
+zero_at : (sums : Totals) → ZeroTotals sums → (t : Total) → total_in t sums ≡ pos 0
+zero_at sums e carbon = e.0
+zero_at sums e hydrogen = e.1.0
+zero_at sums e oxygen = e.1.1.0
+zero_at sums e nitrogen = e.1.1.1.0
+zero_at sums e phosphorus = e.1.1.1.1.0
+zero_at sums e charge = e.1.1.1.1.1
+
+pub held_none : (set : Set) (amounts : List ℤ) (sums : Totals) → ZeroTotals sums → HeldBelow set amounts 0 sums
+held_none set amounts sums e = record { held_sum = λ t. zero_at sums e t ∙ sym (sum-none _) }
+
+pub held_all : (set : Set) (amounts : List ℤ) (k : ℕ) (sums : Totals) → k ≡ substances → HeldBelow set amounts k sums
+    → sums ≡ totals_in set amounts 0
+unfolding cell_total
+held_all set amounts k sums e held = λ i.
+    record {
+      carbon = same carbon i;
+      hydrogen = same hydrogen i;
+      oxygen = same oxygen i;
+      nitrogen = same nitrogen i;
+      phosphorus = same phosphorus i;
+      charge = same charge i;
+    }
+  where
+    same : (t : Total) → total_in t sums ≡ cell_total set t amounts 0
+    same t =
+        held.held_sum t
+        ∙ rw e (sum_eq substances _ _ (λ s l. ap (contents set t s) (sym (first_cell amounts s))))
 
 -- The number of a call by that of the set.
 pub totals_number_lem : (set : Set) (r : River) (cell : ℕ)

@@ -1,21 +1,19 @@
 -- `totals_of` meets its contract: each return is a case of the number, by that of the set. No assumptions.
-use Rattle.std.proofs.Common.{◌≡◌, ◌∙◌, refl, sym, ap, arith, ℕ, Result, Ok, Bool, true, false}
+use Rattle.std.proofs.Common.{◌≡◌, ◌∙◌, refl, sym, ap, arith, rules, ℕ, ◌-◌, ◌*◌, ◌/◌, length, Result, Ok, Bool, true, false}
 use mathlib.Core.Bool.{not}
 use Rattle.std.proofs.lemmas.Result.{err_from_is_err_and}
 use Rattle.numeric.specs.Check.{first_holding}
-use Rattle.stoichiometry.specs.Substances.{held_at, contents}
+use Rattle.stoichiometry.specs.Substances.{substances}
 use Rattle.stoichiometry.specs.declared.Set.{Set}
 use Rattle.stoichiometry.specs.declared.refusals.Refusal.{Refusal}
 use Rattle.stoichiometry.specs.Sets.{set_number}
 use Rattle.rows.specs.Answers.{check_answer}
-use Rattle.stoichiometry.specs.Totals.{cell_total}
 use Rattle.stoichiometry.proofs.SetNumber.{accepted-passes}
 use Rattle.river.specs.declared.River.{River}
-use Rattle.river.specs.Rivers.{river_fits, river_wrong, cell_exists}
+use Rattle.river.specs.Rivers.{most_cells, river_fits, river_wrong, cell_exists}
 use Rattle.river.proofs.Rivers.{wrong_tested, river-cells, cell_bound}
-use Rattle.totals.specs.Totals.{totals_answer}
-use Rattle.totals.specs.Inner.TotalsCode.{weights_of, held_by, weighted_total, totals_at}
-use Rattle.totals.proofs.TotalsLaws.{cell_addable, set_refused, set_accepted, number_beside}
+use Rattle.totals.specs.Totals.{totals_in, totals_answer}
+use Rattle.totals.proofs.TotalsLaws.{chunk_of, cell_alone, cell_addable, set_refused, set_accepted, number_beside}
 use Rattle.totals.proofs.totals_of.Goals as goal
 
 -- A river by the test of it.
@@ -52,24 +50,36 @@ returns-then-not-in_range c =
     let none : cell_exists a.river a.cell ≡ false = sym c.in_range.ensures ∙ c.if-not-in_range.true in
     record { answer = rw (number, right, none) refl }
 
-pub totals_at-requires : goal.totals_at-requires
-totals_at-requires c =
+pub bounds-cells-cell : goal.bounds-cells-cell
+bounds-cells-cell c =
+    let a = c.args in
+    let right = tested a.river _ _ c.fits.ensures.answer c.if-not-fits.false in
+    let bound = cell_bound a.river a.cell (sym c.in_range.ensures ∙ c.if-not-in_range.false) in
+    let cells = river-cells a.river right in
+    let long : length a.river.amounts ≡ most_cells * substances = search rules in
+    let count : length c.as_chunks.result.0.now ≡ length a.river.amounts / substances = c.as_chunks.ensures.front_len in
+    omega arith
+
+pub of_cell-requires : goal.of_cell-requires
+of_cell-requires c =
     let a = c.args in
     let number = accepted a.set a.river a.cell c.check.result c.check.ensures.answer c.in_ok-check.was in
     let right = tested a.river _ _ c.fits.ensures.answer c.if-not-fits.false in
-    let exists : cell_exists a.river a.cell ≡ true = sym c.in_range.ensures ∙ c.if-not-in_range.false in
+    let bound = cell_bound a.river a.cell (sym c.in_range.ensures ∙ c.if-not-in_range.false) in
     let cells = river-cells a.river right in
-    let bound = cell_bound a.river a.cell exists in
-    record {
-      cell_in_river = omega arith;
-      addable_totals = cell_addable a.set a.river (accepted-passes a.set number).0 right _ (omega arith);
-    }
+    let chunk = chunk_of a.river.amounts _ (a.cell - 1) c.as_chunks.ensures.front (search rules) (omega arith) in
+    rw chunk (cell_addable a.set a.river (accepted-passes a.set number).0 right (a.cell - 1) (omega arith))
 
 pub returns : goal.returns
-unfolding totals_answer first_holding totals_at weighted_total weights_of held_by cell_total contents held_at
+unfolding totals_answer first_holding
 returns c =
     let a = c.args in
     let number = number_beside a.set a.river a.cell (accepted a.set a.river a.cell c.check.result c.check.ensures.answer c.in_ok-check.was) in
     let right = tested a.river _ _ c.fits.ensures.answer c.if-not-fits.false in
     let exists : cell_exists a.river a.cell ≡ true = sym c.in_range.ensures ∙ c.if-not-in_range.false in
-    record { answer = ap Ok c.totals_at.ensures ∙ rw (number, right, exists) refl }
+    let bound = cell_bound a.river a.cell exists in
+    let cells = river-cells a.river right in
+    let chunk = chunk_of a.river.amounts _ (a.cell - 1) c.as_chunks.ensures.front (search rules) (omega arith) in
+    let totals : c.of_cell.result ≡ totals_in a.set a.river.amounts (a.cell - 1) =
+    c.of_cell.ensures ∙ rw chunk (cell_alone a.set a.river.amounts (a.cell - 1)) in
+    record { answer = rw (totals, number, right, exists) refl }
