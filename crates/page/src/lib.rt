@@ -29,6 +29,9 @@ impl Page {
     pub const LINE_FEED: usize = Page::LEVELS_START + Page::LEVELS * Page::LEVEL_COLUMNS;
 
     pub const ROW_BYTES: usize = Page::LINE_FEED + 1;
+
+    // Bytes of the longest page.
+    pub const BYTES_MOST: usize = River::CELLS_MOST * Page::ROW_BYTES;
 }
 
 // Writes the river's page to the start of the output; bytes past it stay. Refuses by the first check that holds (4, 12),

@@ -7,3 +7,4 @@ pub mod Batches
 pub mod SetNumber
 pub mod PublishedSet
 pub mod RefusalLaws
+mod FigureLists

@@ -1,13 +1,17 @@
--- What an answer tells of the number that it is made by (specs/Refusals.antt). No assumptions.
-use Prim.Native.Nat.{ℕ, zero, suc}
+-- What an answer tells of the number that it is made by, and that it has that number (specs/Refusals.antt). No assumptions.
+use Prim.Native.Nat.{ℕ, zero, suc, ◌≤◌}
 use mathlib.Core.Path.{◌≡◌, refl, ap, ◌∙◌}
 use native.Mathlib.Omega.{arith}
-use lib.Dec.{eqb-suc-zero}
-use Rattle.std.specs.Prelude.{Result, Ok, Err, is_ok}
+use lib.Dec.{eqb, eqb-suc-zero}
+use Rattle.std.specs.Prelude.{true, Result, Ok, Err, is_ok}
 use Rattle.std.specs.Result.{result_unwrap_or}
-use Rattle.std.proofs.lemmas.Bool.{true≢false, false≢true}
+use Rattle.std.proofs.lemmas.Bool.{true≢false, false≢true, eqb-true}
+use Rattle.numeric.specs.Check.{every}
+use Rattle.numeric.proofs.CheckLaws.{every_at}
 use Rattle.stoichiometry.specs.declared.refusals.Refusal.{Refusal}
-use Rattle.stoichiometry.specs.Refusals.{refusal_of, answer_of}
+use Rattle.stoichiometry.specs.declared.refusals.Refusal.TheVariants.{Fractions, Figures, Rows, River, Place, Conditions}
+use Rattle.stoichiometry.specs.declared.refusals.Refusal.TheVariants.{Batches, Bounds, Reading, Space, Text, Page}
+use Rattle.stoichiometry.specs.Refusals.{number, refusal_of, answer_of, number_of}
 
 -- The refusal of an answer, or another one.
 abbrev pub refusal_in : {A : Type 0} → Refusal → Result A Refusal → Refusal
@@ -28,3 +32,38 @@ pub answer-err : {A : Type 0} (n : ℕ) (done : A) (refusal : Refusal) → Err r
 answer-err zero done refusal e = absurd (false≢true (ap is_ok e))
 answer-err (suc n) done refusal e =
     ((λ z. omega arith), ap (refusal_in refusal) (e ∙ above_zero n done))
+
+-- Another call that is refused by the same number answers that refusal.
+pub answer-refused : {A : Type 0} (n : ℕ) (done : A) → (n ≡ 0 → ⊥) → answer_of n done ≡ Err (refusal_of n)
+answer-refused zero done h = absurd (h refl)
+answer-refused (suc n) done h = above_zero n done
+
+-- The refusal of a number from 1 to 12 has that number.
+numbers_right : every 12 (λ k. eqb (number (refusal_of (suc k))) (suc k)) ≡ true
+unfolding every
+numbers_right = refl
+
+pub refusal_of-number : (n : ℕ) → 1 ≤ n → n ≤ 12 → number (refusal_of n) ≡ n
+refusal_of-number zero low high = absurd (omega arith)
+refusal_of-number (suc n) low high =
+    eqb-true _ _ (every_at 12 n (λ k. eqb (number (refusal_of (suc k))) (suc k)) numbers_right (omega arith))
+
+-- So has the answer of a number up to 12.
+pub answer_of-number : {A : Type 0} (n : ℕ) (done : A) → n ≤ 12 → number_of (answer_of n done) ≡ n
+answer_of-number zero done high = refl
+answer_of-number (suc n) done high = rw (eqb-suc-zero n) (refusal_of-number (suc n) (omega arith) high)
+
+-- No refusal has the number 0.
+pub number-positive : (refusal : Refusal) → number refusal ≡ 0 → ⊥
+number-positive Fractions e = omega arith
+number-positive Figures e = omega arith
+number-positive Rows e = omega arith
+number-positive River e = omega arith
+number-positive Place e = omega arith
+number-positive Conditions e = omega arith
+number-positive Batches e = omega arith
+number-positive Bounds e = omega arith
+number-positive Reading e = omega arith
+number-positive Space e = omega arith
+number-positive Text e = omega arith
+number-positive Page e = omega arith

@@ -41,10 +41,14 @@ half_list h =
     ∷ h.xn2.o2 ∷ h.xn2.no2 ∷ h.xn2.phosphate
     ∷ h.algae.o2 ∷ h.algae.nitrogen ∷ h.algae.nh4 ∷ h.algae.phosphate ∷ []
 
+-- The rate constants of growth and respiration of an organism, thousandths per day.
+abbrev pub growth_rates : ℕ → ℕ → GrowthRates
+growth_rates k r = record { growth = k; respiration = r }
+
 -- Every rate constant k, thousandths per day; every half-saturation k, µg.
 abbrev pub all_rates : ℕ → RateConstants
 all_rates k =
-    let organism : GrowthRates = record { growth = k; respiration = k } in
+    let organism = growth_rates k k in
     record {
       aerobic = organism;
       anoxic = organism;

@@ -85,17 +85,10 @@ impl Walk {
     ) -> Result<Walk> {
         let set = self.set;
         let before = self.river;
-        let temperatures = Temperatures {
-            xh: warmth,
-            xn1: warmth,
-            xn2: warmth,
-            algae: warmth,
-            hydrolysis: warmth,
-        };
         let given = Conditions {
             seconds,
             light,
-            temperatures,
+            temperatures: Temperatures::all(warmth),
         };
         let answer = step_river(set, before, given);
         println!(rt; "step {}", number_of(&answer))?;

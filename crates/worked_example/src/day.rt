@@ -92,17 +92,10 @@ impl Day {
     fn step(mut self, rt: &impl Print) -> Result<Day> {
         let set = self.set;
         let before = self.river;
-        let temperatures = Temperatures {
-            xh: 1000000,
-            xn1: 1000000,
-            xn2: 1000000,
-            algae: 1000000,
-            hydrolysis: 1000000,
-        };
         let given = Conditions {
             seconds: 600,
             light: 500000,
-            temperatures,
+            temperatures: Temperatures::all(1000000),
         };
         let answer = step::step_river(set, before, given);
         println!(rt; "step {}", number_of(&answer))?;
