@@ -6,8 +6,8 @@ use mathlib.Core.List.{List, [], ◌∷◌, map}
 use mathlib.Core.Path.{◌≡◌, refl, sym, ap, ◌∙◌}
 use native.Mathlib.Nat.{zero-add}
 use native.Mathlib.Omega.{arith}
-use borrow.Author.Tests.{eqb-true, leb-true}
-use lib.Dec.{eqb, leb, eqb-suc-zero, lit<}
+use borrow.Author.Tests.{ne_eqb, eqb-true, leb-true}
+use lib.Dec.{eqb, leb, lit<}
 use lib.IntN.{ℤ, pos, nat_abs, ◌+ℤ◌, ◌*ℤ◌}
 use lib.ListN.{length, get_or, take, drop}
 use Rattle.std.proofs.lemmas.List.{get_or-take, get_or-drop, drop-drop}
@@ -32,13 +32,13 @@ use Rattle.river.specs.declared.River.{River}
 use Rattle.river.specs.Rivers.{most_cells, highest_at, river_wrong, cell_exists}
 use Rattle.river.proofs.Bounds.{fits_size}
 use Rattle.river.proofs.Rivers.{amount_fits_at}
-use Rattle.std.specs.Prelude.{Result, Ok, Err}
+use Rattle.std.specs.Prelude.{Err}
 use Rattle.stoichiometry.specs.declared.refusals.Refusal.{Refusal}
-use Rattle.stoichiometry.specs.Refusals.{refusal_of}
+use Rattle.stoichiometry.proofs.RefusalLaws.{answer-err, answer-refused}
 use Rattle.rows.specs.Answers.{check_answer}
 use Rattle.totals.specs.declared.Totals.{Totals}
 use Rattle.totals.specs.Totals.{totals_number, totals_in, totals_answer}
-use Rattle.totals.specs.Inner.TotalsCode.{as_totals, compositions, total_in, with_amount, heaviest, most_held}
+use Rattle.totals.specs.Inner.TotalsCode.{totals_from, total_in, as_totals, compositions, with_amount, heaviest, most_held}
 use Rattle.totals.specs.Inner.TotalsCode.{Addable, AddableAmounts}
 
 -- All that the amounts of a cell may hold: below 2 ^ 63.
@@ -46,18 +46,33 @@ all_held : added substances most_held ≡ 5739840000000000000
 unfolding added most_held highest_at
 all_held = refl
 
--- A test of each of the six totals.
-each_total : (p : Total → Bool) → all_of p (carbon ∷ hydrogen ∷ oxygen ∷ nitrogen ∷ phosphorus ∷ charge ∷ []) ≡ true
-    → (t : Total) → p t ≡ true
-each_total p e carbon = all_of_at p _ 0 carbon e (lit< tt)
-each_total p e hydrogen = all_of_at p _ 1 carbon e (lit< tt)
-each_total p e oxygen = all_of_at p _ 2 carbon e (lit< tt)
-each_total p e nitrogen = all_of_at p _ 3 carbon e (lit< tt)
-each_total p e phosphorus = all_of_at p _ 4 carbon e (lit< tt)
-each_total p e charge = all_of_at p _ 5 carbon e (lit< tt)
+-- The six totals, and a test that each passes.
+abbrev totals : List Total
+totals = carbon ∷ hydrogen ∷ oxygen ∷ nitrogen ∷ phosphorus ∷ charge ∷ []
+
+each_total : (p : Total → Bool) → all_of p totals ≡ true → (t : Total) → p t ≡ true
+each_total p e carbon = all_of_at p totals 0 carbon e (lit< tt)
+each_total p e hydrogen = all_of_at p totals 1 carbon e (lit< tt)
+each_total p e oxygen = all_of_at p totals 2 carbon e (lit< tt)
+each_total p e nitrogen = all_of_at p totals 3 carbon e (lit< tt)
+each_total p e phosphorus = all_of_at p totals 4 carbon e (lit< tt)
+each_total p e charge = all_of_at p totals 5 carbon e (lit< tt)
+
+-- Each of six totals, and totals of which each is the same.
+total_from : (f : Total → ℤ) (t : Total) → total_in t (totals_from f) ≡ f t
+total_from f carbon = refl
+total_from f hydrogen = refl
+total_from f oxygen = refl
+total_from f nitrogen = refl
+total_from f phosphorus = refl
+total_from f charge = refl
+
+same_totals : (f g : Total → ℤ) → ((t : Total) → f t ≡ g t) → totals_from f ≡ totals_from g
+same_totals f g same = λ i. totals_from (λ t. same t i)
 
 -- One µg of an organic holds at most 1,000 thousandths of an element.
-organic-light : (f : Fractions) → adds_up f ≡ true → (t : Total) → nat_abs (amount_of t (organic_composition f)) ≤ 312480000
+organic-light : (f : Fractions) → adds_up f ≡ true → (t : Total)
+    → nat_abs (amount_of t (organic_composition f)) ≤ 312480000
 unfolding adds_up
 organic-light f e carbon = omega (arith, eqb-true _ 1000 e)
 organic-light f e hydrogen = omega (arith, eqb-true _ 1000 e)
@@ -67,8 +82,7 @@ organic-light f e phosphorus = omega (arith, eqb-true _ 1000 e)
 organic-light f e charge = omega arith
 
 formula_light : (set : Set) (t : Total) (s : Substance)
-    → all_of (λ x. leb (nat_abs (held set x s)) (heaviest s)) (carbon ∷ hydrogen ∷ oxygen ∷ nitrogen ∷ phosphorus ∷ charge ∷ []) ≡ true
-    → nat_abs (held set t s) ≤ heaviest s
+    → all_of (λ x. leb (nat_abs (held set x s)) (heaviest s)) totals ≡ true → nat_abs (held set t s) ≤ heaviest s
 formula_light set t s e = leb-true _ (heaviest s) (each_total (λ x. leb (nat_abs (held set x s)) (heaviest s)) e t)
 
 -- No substance holds more than `heaviest` of a total; the numbers of a formula by computation.
@@ -90,12 +104,17 @@ light set e t n2 = formula_light set t n2 refl
 abbrev pub cell_amounts : List ℤ → ℕ → List ℤ
 cell_amounts amounts c = take substances (drop (c * substances) amounts)
 
-cell_amount : (amounts : List ℤ) (c s : ℕ) → s < substances → get_or (cell_amounts amounts c) s (pos 0) ≡ amount_at amounts c s
+cell_amount : (amounts : List ℤ) (c s : ℕ) → s < substances
+    → get_or (cell_amounts amounts c) s (pos 0) ≡ amount_at amounts c s
 cell_amount amounts c s h =
     get_or-take substances (drop (c * substances) amounts) s (pos 0) h
     ∙ get_or-drop (c * substances) amounts s (pos 0)
 
-chunk_at : (k c : ℕ) (amounts : List ℤ) → c < k → get_or (first_chunks substances k amounts) c [] ≡ cell_amounts amounts c
+first_cell : (amounts : List ℤ) (s : ℕ) → amount_at amounts 0 s ≡ get_or amounts s (pos 0)
+first_cell amounts s = ap (λ (j : ℕ). get_or amounts j (pos 0)) (zero-add s)
+
+chunk_at : (k c : ℕ) (amounts : List ℤ) → c < k
+    → get_or (first_chunks substances k amounts) c [] ≡ cell_amounts amounts c
 chunk_at zero c amounts h = absurd (omega arith)
 chunk_at (suc k) zero amounts h = refl
 chunk_at (suc k) (suc c) amounts h =
@@ -108,24 +127,13 @@ pub chunk_of : (amounts : List ℤ) (cells : List (List ℤ)) (c : ℕ)
     → c < most_cells → get_or cells c [] ≡ cell_amounts amounts c
 chunk_of amounts cells c e long h = rw e (chunk_at (length amounts / substances) c amounts (omega arith))
 
-first_cell : (amounts : List ℤ) (s : ℕ) → amount_at amounts 0 s ≡ get_or amounts s (pos 0)
-first_cell amounts s = ap (λ (j : ℕ). get_or amounts j (pos 0)) (zero-add s)
-
 -- They hold what the cell holds.
 pub cell_alone : (set : Set) (amounts : List ℤ) (c : ℕ)
     → totals_in set (cell_amounts amounts c) 0 ≡ totals_in set amounts c
 cell_alone set amounts c =
-    let same : (t : Total) → cell_total set t (cell_amounts amounts c) 0 ≡ cell_total set t amounts c =
-    λ t. cell_eq set t (cell_amounts amounts c) amounts 0 c (λ s l. first_cell (cell_amounts amounts c) s ∙ cell_amount amounts c s l) in
-    λ i.
-    record {
-      carbon = same carbon i;
-      hydrogen = same hydrogen i;
-      oxygen = same oxygen i;
-      nitrogen = same nitrogen i;
-      phosphorus = same phosphorus i;
-      charge = same charge i;
-    }
+    let alone = cell_amounts amounts c in
+    same_totals (λ t. cell_total set t alone 0) (λ t. cell_total set t amounts c)
+    (λ t. cell_eq set t alone amounts 0 c (λ s l. first_cell alone s ∙ cell_amount amounts c s l))
 
 -- The amounts of a right river's cell under a set of which check 1 does not hold.
 pub cell_addable : (set : Set) (r : River) → fractions_wrong set ≡ false → river_wrong r ≡ false → (c : ℕ) → c < r.cells
@@ -149,26 +157,13 @@ pub record HeldBelow (set : Set) (amounts : List ℤ) (k : ℕ) (sums : Totals) 
 composed_at : (set : Set) (t : Total) (l : List Substance) (k : ℕ) (d : Totals) → k < length l
     → total_in t (get_or (map (λ s. as_totals (composition_of set s)) l) k d) ≡ get_or (map (held set t) l) k (pos 0)
 composed_at set t [] k d h = absurd (omega arith)
-composed_at set carbon (s ∷ l) zero d h = refl
-composed_at set hydrogen (s ∷ l) zero d h = refl
-composed_at set oxygen (s ∷ l) zero d h = refl
-composed_at set nitrogen (s ∷ l) zero d h = refl
-composed_at set phosphorus (s ∷ l) zero d h = refl
-composed_at set charge (s ∷ l) zero d h = refl
+composed_at set t (s ∷ l) zero d h = total_from (λ x. held set x s) t
 composed_at set t (s ∷ l) (suc k) d h = composed_at set t l k d (omega arith)
-
-with_at : (t : Total) (sums one : Totals) (amount : ℤ)
-    → total_in t (with_amount sums amount one) ≡ total_in t sums +ℤ amount *ℤ total_in t one
-with_at carbon sums one amount = refl
-with_at hydrogen sums one amount = refl
-with_at oxygen sums one amount = refl
-with_at nitrogen sums one amount = refl
-with_at phosphorus sums one amount = refl
-with_at charge sums one amount = refl
 
 -- A turn of the loop over the substances, at place k: the sums with what the amount holds fit 64 bits, and are the
 -- next ones.
-module _ (set : Set) (amounts : List ℤ) (k : ℕ) (sums d : Totals) (h : k < substances) (so_far : HeldBelow set amounts k sums) where
+module _ (set : Set) (amounts : List ℤ) (k : ℕ) (sums d : Totals) (h : k < substances)
+    (so_far : HeldBelow set amounts k sums) where
   abbrev one : Totals
   one = get_or (compositions set) k d
 
@@ -188,9 +183,8 @@ module _ (set : Set) (amounts : List ℤ) (k : ℕ) (sums d : Totals) (h : k < s
 
   pub turn_next : HeldBelow set amounts (k + 1) (with_amount sums (get_or amounts k (pos 0)) one)
   turn_next =
-      record {
-        held_sum = λ t. with_at t sums one (get_or amounts k (pos 0)) ∙ rw (so_far.held_sum t, product-is t, sum_more);
-      }
+      let with_one : Total → ℤ = λ t. total_in t sums +ℤ get_or amounts k (pos 0) *ℤ total_in t one in
+      record { held_sum = λ t. total_from with_one t ∙ rw (so_far.held_sum t, product-is t, sum_more) refl }
 
 -- Totals of zeros.
 abbrev pub ZeroTotals : Totals → Type 0
@@ -213,20 +207,10 @@ held_none set amounts sums e = record { held_sum = λ t. zero_at sums e t ∙ sy
 pub held_all : (set : Set) (amounts : List ℤ) (k : ℕ) (sums : Totals) → k ≡ substances → HeldBelow set amounts k sums
     → sums ≡ totals_in set amounts 0
 unfolding cell_total
-held_all set amounts k sums e held = λ i.
-    record {
-      carbon = same carbon i;
-      hydrogen = same hydrogen i;
-      oxygen = same oxygen i;
-      nitrogen = same nitrogen i;
-      phosphorus = same phosphorus i;
-      charge = same charge i;
-    }
-  where
-    same : (t : Total) → total_in t sums ≡ cell_total set t amounts 0
-    same t =
-        held.held_sum t
-        ∙ rw e (sum_eq substances _ _ (λ s l. ap (contents set t s) (sym (first_cell amounts s))))
+held_all set amounts k sums e held =
+    same_totals (λ t. total_in t sums) (λ t. cell_total set t amounts 0)
+    (λ t. held.held_sum t
+    ∙ rw e (sum_eq substances _ _ (λ s l. ap (contents set t s) (sym (first_cell amounts s)))))
 
 -- The number of a call by that of the set.
 pub totals_number_lem : (set : Set) (r : River) (cell : ℕ)
@@ -235,42 +219,16 @@ pub totals_number_lem : (set : Set) (r : River) (cell : ℕ)
 unfolding totals_number set_number
 totals_number_lem set r cell = first_append (set_checks set) _ refl
 
--- Whether a set was refused; the refusal of a set as that of its totals.
-abbrev is_refused : Result (Unit {0}) Refusal → ℕ
-is_refused (Ok x) = 0
-is_refused (Err refusal) = 1
-
-abbrev with_totals : Totals → Result (Unit {0}) Refusal → Result Totals Refusal
-with_totals totals (Ok x) = Ok totals
-with_totals totals (Err refusal) = Err refusal
-
 -- The answer where the set is refused, and where it is not: by the number of the river and the cell.
 module _ (set : Set) (r : River) (cell : ℕ) where
-  abbrev others : ℕ
-  others = first_holding (4 when river_wrong r ∷ 5 when not (cell_exists r cell) ∷ [])
-
-  refused_by : (n : ℕ) (refusal : Refusal) → set_number set ≡ n → Err refusal ≡ check_answer set
-      → Err refusal ≡ totals_answer set r cell
-  unfolding totals_answer check_answer
-  refused_by zero refusal e a =
-      let accepted : Err refusal ≡ Ok tt = rw e at a in
-      absurd (omega (arith, ap is_refused accepted))
-  refused_by (suc n) refusal e a =
-      let refused : Err refusal ≡ Err (refusal_of (suc n)) = rw (e, eqb-suc-zero n) at a in
-      rw (totals_number_lem set r cell, e, eqb-suc-zero n, eqb-suc-zero n) (ap (with_totals (totals_in set r.amounts (cell - 1))) refused)
-
   pub set_refused : (refusal : Refusal) → Err refusal ≡ check_answer set → Err refusal ≡ totals_answer set r cell
-  set_refused refusal = refused_by (set_number set) refusal refl
+  unfolding totals_answer check_answer
+  set_refused refusal e =
+      let n = set_number set in
+      let told = answer-err n tt refusal e in
+      rw (totals_number_lem set r cell, ne_eqb n 0 told.0, told.1)
+      (sym (answer-refused n (totals_in set r.amounts (cell - 1)) told.0))
 
-  accepted_by : (n : ℕ) → set_number set ≡ n → Ok tt ≡ check_answer set → set_number set ≡ 0
-  unfolding check_answer
-  accepted_by zero e a = e
-  accepted_by (suc n) e a =
-      let refused : Ok tt ≡ Err (refusal_of (suc n)) = rw (e, eqb-suc-zero n) at a in
-      absurd (omega (arith, ap is_refused refused))
-
-  pub set_accepted : Ok tt ≡ check_answer set → set_number set ≡ 0
-  set_accepted = accepted_by (set_number set) refl
-
-  pub number_beside : set_number set ≡ 0 → totals_number set r cell ≡ others
+  pub number_beside : set_number set ≡ 0
+      → totals_number set r cell ≡ first_holding (4 when river_wrong r ∷ 5 when not (cell_exists r cell) ∷ [])
   number_beside e = rw (totals_number_lem set r cell, e) refl

@@ -4,46 +4,41 @@
 use Rattle.std.specs.Prelude.{ℕ, ◌+◌, ◌*◌, ◌^◌, ◌≤◌, ◌<◌, List, map, get_or, ℤ, pos, nat_abs, ◌+ℤ◌, ◌*ℤ◌}
 use Rattle.stoichiometry.specs.declared.Set.{Set}
 use Rattle.stoichiometry.specs.Substances.{Substance, organic, nh4, no2, no3, hpo4, o2, hco3, h_plus, xp, h2o, n2}
-use Rattle.stoichiometry.specs.Substances.{substances, order, Composition, composition_of, contents}
+use Rattle.stoichiometry.specs.Substances.{substances, order, Composition, composition_of, amount_of, contents}
 use Rattle.stoichiometry.specs.Substances.{Total, carbon, hydrogen, oxygen, nitrogen, phosphorus, charge}
 use Rattle.river.specs.Rivers.{highest_at}
 use Rattle.totals.specs.declared.Totals.{Totals}
 
--- A composition as six totals, and that of each substance, in their order.
-abbrev pub as_totals : Composition → Totals
-as_totals c =
+-- Six totals, and one of them.
+abbrev pub totals_from : (Total → ℤ) → Totals
+totals_from f =
     record {
-      carbon = c.carbon;
-      hydrogen = c.hydrogen;
-      oxygen = c.oxygen;
-      nitrogen = c.nitrogen;
-      phosphorus = c.phosphorus;
-      charge = c.charge;
+      carbon = f carbon;
+      hydrogen = f hydrogen;
+      oxygen = f oxygen;
+      nitrogen = f nitrogen;
+      phosphorus = f phosphorus;
+      charge = f charge;
     }
+
+abbrev pub total_in : Total → Totals → ℤ
+total_in carbon totals = totals.carbon
+total_in hydrogen totals = totals.hydrogen
+total_in oxygen totals = totals.oxygen
+total_in nitrogen totals = totals.nitrogen
+total_in phosphorus totals = totals.phosphorus
+total_in charge totals = totals.charge
+
+-- A composition as six totals; what one of each substance holds, in their order.
+abbrev pub as_totals : Composition → Totals
+as_totals c = totals_from (λ t. amount_of t c)
 
 unfoldable pub compositions : Set → List Totals
 compositions set = map (λ s. as_totals (composition_of set s)) order
 
--- One of six totals.
-abbrev pub total_in : Total → Totals → ℤ
-total_in carbon t = t.carbon
-total_in hydrogen t = t.hydrogen
-total_in oxygen t = t.oxygen
-total_in nitrogen t = t.nitrogen
-total_in phosphorus t = t.phosphorus
-total_in charge t = t.charge
-
 -- Totals and those of an amount of a substance of which one holds `one`.
 abbrev pub with_amount : Totals → ℤ → Totals → Totals
-with_amount t amount one =
-    record {
-      carbon = t.carbon +ℤ amount *ℤ one.carbon;
-      hydrogen = t.hydrogen +ℤ amount *ℤ one.hydrogen;
-      oxygen = t.oxygen +ℤ amount *ℤ one.oxygen;
-      nitrogen = t.nitrogen +ℤ amount *ℤ one.nitrogen;
-      phosphorus = t.phosphorus +ℤ amount *ℤ one.phosphorus;
-      charge = t.charge +ℤ amount *ℤ one.charge;
-    }
+with_amount sums amount one = totals_from (λ t. total_in t sums +ℤ amount *ℤ total_in t one)
 
 -- The sums fit 64 bits.
 pub record Addable (sums : Totals) (amount : ℤ) (one : Totals) : Type 0 where
@@ -69,4 +64,5 @@ most_held s = nat_abs (highest_at s) * get_or (map heaviest order) s 0
 
 -- What each amount of a cell holds is in its bounds.
 pub record AddableAmounts (set : Set) (amounts : List ℤ) : Type 0 where
-  pub within : (t : Total) (s : ℕ) → s < substances → nat_abs (contents set t s (get_or amounts s (pos 0))) ≤ most_held s
+  pub within : (t : Total) (s : ℕ) → s < substances
+      → nat_abs (contents set t s (get_or amounts s (pos 0))) ≤ most_held s

@@ -10,7 +10,8 @@ use Rattle.stoichiometry.specs.Substances.{carbon, hydrogen, oxygen, nitrogen, p
 use Rattle.totals.proofs.Totals.with.Goals as goal
 
 -- A sum and a product, as the machine has them.
-module _ (amount one : ℤ) (a : SFits w64 amount) (o : mag one < 2 ^ 63) (sum : ℤ) (small : nat_abs sum + nat_abs (amount *ℤ one) < 2 ^ 63) where
+module _ (amount one : ℤ) (a : SFits w64 amount) (o : mag one < 2 ^ 63) (sum : ℤ)
+    (small : nat_abs sum + nat_abs (amount *ℤ one) < 2 ^ 63) where
   product-is : kept amount *ℤ kept one ≡ amount *ℤ one
   product-is = rw (to_z-of_z a, kept_is one o) refl
 
@@ -22,7 +23,9 @@ module _ (amount one : ℤ) (a : SFits w64 amount) (o : mag one < 2 ^ 63) (sum :
 
   module _ (x : mag sum < 2 ^ 63) where
     sum_fits : SFits w64 (kept sum +ℤ kept (kept amount *ℤ kept one))
-    sum_fits = rw (kept_is sum x, product_kept) (fits_abs (sum +ℤ amount *ℤ one) (omega (arith, small, abs_add sum (amount *ℤ one))))
+    sum_fits =
+        rw (kept_is sum x, product_kept)
+        (fits_abs (sum +ℤ amount *ℤ one) (omega (arith, small, abs_add sum (amount *ℤ one))))
 
     sum-is : kept (kept sum +ℤ kept (kept amount *ℤ kept one)) ≡ sum +ℤ amount *ℤ one
     sum-is = to_z-of_z sum_fits ∙ rw (kept_is sum x, product_kept) refl
@@ -88,12 +91,16 @@ overflow_add-result-6 c =
     sum_fits a.amount a.one.charge c.ranges.amount (search rules) a.self.charge (c.requires.fits charge) (search rules)
 
 pub returns : goal.returns
-returns c = λ i.
+returns c =
+    let a = c.args in
+    let fit = c.ranges.amount in
+    let small = c.requires.fits in
+    λ i.
     record {
-      carbon = sum-is c.args.amount c.args.one.carbon c.ranges.amount (search rules) c.args.self.carbon (c.requires.fits carbon) (search rules) i;
-      hydrogen = sum-is c.args.amount c.args.one.hydrogen c.ranges.amount (search rules) c.args.self.hydrogen (c.requires.fits hydrogen) (search rules) i;
-      oxygen = sum-is c.args.amount c.args.one.oxygen c.ranges.amount (search rules) c.args.self.oxygen (c.requires.fits oxygen) (search rules) i;
-      nitrogen = sum-is c.args.amount c.args.one.nitrogen c.ranges.amount (search rules) c.args.self.nitrogen (c.requires.fits nitrogen) (search rules) i;
-      phosphorus = sum-is c.args.amount c.args.one.phosphorus c.ranges.amount (search rules) c.args.self.phosphorus (c.requires.fits phosphorus) (search rules) i;
-      charge = sum-is c.args.amount c.args.one.charge c.ranges.amount (search rules) c.args.self.charge (c.requires.fits charge) (search rules) i;
+      carbon = sum-is a.amount a.one.carbon fit (search rules) a.self.carbon (small carbon) (search rules) i;
+      hydrogen = sum-is a.amount a.one.hydrogen fit (search rules) a.self.hydrogen (small hydrogen) (search rules) i;
+      oxygen = sum-is a.amount a.one.oxygen fit (search rules) a.self.oxygen (small oxygen) (search rules) i;
+      nitrogen = sum-is a.amount a.one.nitrogen fit (search rules) a.self.nitrogen (small nitrogen) (search rules) i;
+      phosphorus = sum-is a.amount a.one.phosphorus fit (search rules) a.self.phosphorus (small phosphorus) (search rules) i;
+      charge = sum-is a.amount a.one.charge fit (search rules) a.self.charge (small charge) (search rules) i;
     }
