@@ -1,5 +1,5 @@
 -- `totals_of` meets its contract: each return is a case of the number, by that of the set. No assumptions.
-use Rattle.std.proofs.Common.{◌≡◌, ◌∙◌, refl, sym, ap, arith, rules, ◌-◌, ◌*◌, ◌/◌, length, Result, Ok, Bool, true, false}
+use Rattle.std.proofs.Common.{◌≡◌, ◌∙◌, refl, sym, ap, subst, arith, rules, ◌-◌, ◌*◌, ◌/◌, length, List, ℤ, Result, Ok, Bool, true, false}
 use mathlib.Core.Bool.{not}
 use Rattle.std.proofs.lemmas.Result.{err_from_is_err_and}
 use Rattle.numeric.specs.Check.{first_holding}
@@ -14,6 +14,7 @@ use Rattle.river.specs.declared.River.{River}
 use Rattle.river.specs.Rivers.{most_cells, river_fits, river_wrong, cell_exists}
 use Rattle.river.proofs.Rivers.{wrong_tested, river-cells, cell_bound}
 use Rattle.totals.specs.Totals.{totals_in, totals_answer}
+use Rattle.totals.specs.Inner.TotalsCode.{AddableAmounts}
 use Rattle.totals.proofs.TotalsLaws.{chunk_of, cell_alone, cell_addable, set_refused, number_beside}
 use Rattle.totals.proofs.totals_of.Goals as goal
 
@@ -72,7 +73,8 @@ of_cell-requires c =
     let bound = cell_bound a.river a.cell (sym c.in_range.ensures ∙ c.if-not-in_range.false) in
     let cells = river-cells a.river right in
     let chunk = chunk_of a.river.amounts _ (a.cell - 1) c.as_chunks.ensures.front (search rules) (omega arith) in
-    rw chunk (cell_addable a.set a.river (accepted-passes a.set number).0 right (a.cell - 1) (omega arith))
+    let addable = cell_addable a.set a.river (accepted-passes a.set number).0 right (a.cell - 1) (omega arith) in
+    subst (λ (amounts : List ℤ). AddableAmounts a.set amounts) (sym chunk) addable
 
 pub returns : goal.returns
 unfolding totals_answer first_holding
