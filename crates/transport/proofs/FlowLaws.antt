@@ -15,8 +15,8 @@ use lib.Signed.{◌≤ℤ◌, ◌<ℤ◌}
 use borrow.Author.Tests.{lt-ltb, le-ltb, leb-true, not-false}
 use Rattle.numeric.specs.Check.{all_of, ◌when◌}
 use Rattle.numeric.proofs.Difference.{up, dn}
-use Rattle.numeric.proofs.Expression.{v, #, ◌⊕◌, ◌⊖◌, ⊝, equal, at_most, at_most_of, below_of}
-use Rattle.numeric.proofs.Bounds.{abs_neg, abs_mul, parts_mono}
+use Rattle.numeric.proofs.Expression.{v, #, ◌⊕◌, ◌⊖◌, at_most, at_most_of, below_of}
+use Rattle.numeric.proofs.Bounds.{abs_mul, parts_mono}
 use Rattle.numeric.proofs.Quotient.{quot_neg, quot_split, abs_quot}
 use Rattle.numeric.proofs.CheckLaws.{row_in, row_beyond, first_last}
 use Rattle.numeric.proofs.TableLaws.{get_or-tab}
@@ -77,19 +77,6 @@ pub passing_bound : (part : ℕ) (z : ℤ) → part ≤ 10000 → nat_abs (passi
 unfolding passing
 passing_bound part z h =
     omega (arith, abs_quot (z *ℤ pos part) 10000, abs_mul z (pos part), share_le part (nat_abs z) h)
-
--- What stays of an amount is no larger either.
-pub staying_bound : (part : ℕ) (z : ℤ) → part ≤ 10000 → nat_abs (z -ℤ passing part z) ≤ nat_abs z
-unfolding passing
-staying_bound part (pos n) h =
-    let s = share part n in
-    let less = share_le part n h in
-    rw (equal (pos n ∷ pos s ∷ pos (n - s) ∷ []) (v 0 ⊖ v 1) (v 2) (omega arith)) (omega arith)
-staying_bound part (negsuc n) h =
-    let s = share part (suc n) in
-    let less = share_le part (suc n) h in
-    rw (quot_neg (suc n * part) 10000, equal (negsuc n ∷ pos s ∷ pos (suc n - s) ∷ []) (v 0 ⊖ ⊝ (v 1)) (⊝ (v 2)) (omega arith))
-    (omega (arith, abs_neg (pos (suc n - s))))
 
 module _ (part : ℕ) (p : part ≤ 10000) where
   -- Of a larger amount no less passes and no less stays.

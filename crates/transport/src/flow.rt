@@ -2,8 +2,8 @@
 ghost use Rattle.std.specs.Prelude.{◌≡◌, ◌≤◌, ◌*◌, ◌/◌, nat_abs};
 ghost use Rattle.stoichiometry.specs.Substances.{most_net};
 ghost use Rattle.river.specs.Rivers.{most_cells};
-ghost use Rattle.transport.specs.Flow.{passing, left_of};
-ghost use Rattle.transport.specs.Inner.Stages.{AmountsWithin, stayed_of, joined_of};
+ghost use Rattle.transport.specs.Flow.{passing, left_of, moved_of};
+ghost use Rattle.transport.specs.Inner.Stages.{AmountsWithin};
 
 use crate::Flowed;
 use river::AMOUNTS;
@@ -26,30 +26,33 @@ fn passed(amount: i64, part: u64) -> i64
     requires { (part ≤ 10000) × (nat_abs amount ≤ most_net) }
     ensures { result ≡ passing part amount }
 {
-    let size = part_of(amount.unsigned_abs(), part) as i64;
-    if amount < 0 { -size } else { size }
+    if amount < 0 {
+        return -(part_of(-amount as u64, part) as i64);
+    }
+    part_of(amount as u64, part) as i64
 }
 
-// What passes of each amount leaves its cell and is listed in `left`.
-pub(crate) fn leave_cells(amounts: &mut [i64; AMOUNTS], part: u64, left: &mut [i64; AMOUNTS])
-    requires { (part ≤ 10000) × AmountsWithin most_net amounts.old }
-    ensures left { left.new ≡ left_of part amounts.old }
-    ensures stayed { amounts.new ≡ stayed_of part amounts.old }
+// What leaves each cell, written over what `left` has.
+pub(crate) fn leave_cells(amounts: &[i64; AMOUNTS], part: u64, left: &mut [i64; AMOUNTS])
+    requires { (part ≤ 10000) × AmountsWithin most_net amounts.now }
+    ensures { left.new ≡ left_of part amounts.now }
 {
     for k in 0..AMOUNTS {
-        let passes = passed(amounts[k], part);
-        left[k] = passes;
-        amounts[k] -= passes;
+        left[k] = passed(amounts[k], part);
     }
 }
 
-// What left a cell comes into the next. Nothing comes into the first cell, nor beyond the last.
-pub(crate) fn enter_cells(cells: usize, amounts: &mut [i64; AMOUNTS], left: &[i64; AMOUNTS])
+// The amounts after: what left is taken from each, and comes into the next cell. Nothing comes into the first cell, nor
+// beyond the last. What left is listed before: with what it is taken from in one loop, a flow takes a quarter longer.
+pub(crate) fn move_amounts(cells: usize, amounts: &mut [i64; AMOUNTS], left: &[i64; AMOUNTS])
     requires cells_in_bounds { (1 ≤ cells) × (cells ≤ most_cells) }
     requires amounts_within { AmountsWithin most_net amounts.old × AmountsWithin most_net left.now }
-    ensures { amounts.new ≡ joined_of cells amounts.old left.now }
+    ensures { amounts.new ≡ moved_of cells amounts.old left.now }
 {
-    for k in 0..(cells - 1) * SUBSTANCES {
-        amounts[SUBSTANCES + k] += left[k];
+    for k in 0..AMOUNTS {
+        amounts[k] -= left[k];
+    }
+    for j in 0..(cells - 1) * SUBSTANCES {
+        amounts[SUBSTANCES + j] += left[j];
     }
 }

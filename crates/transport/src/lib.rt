@@ -7,7 +7,7 @@ ghost use Rattle.transport.specs.Flow.{flow_answer};
 ghost use Rattle.transport.specs.Air.{air_answer};
 
 use crate::air::Exchange;
-use crate::flow::{enter_cells, leave_cells};
+use crate::flow::{leave_cells, move_amounts};
 use crate::load::{amount_at, set_amount, sum_fits};
 use numeric::in_range;
 use river::{AMOUNTS, River};
@@ -81,8 +81,8 @@ pub fn flow_river(river: River, part: u32) -> Result<Flowed, Refusal>
         return Err(Refusal::Conditions);
     }
     let cells = flowed.river.cells as usize;
-    leave_cells(&mut flowed.river.amounts, part as u64, &mut flowed.left);
-    enter_cells(cells, &mut flowed.river.amounts, &flowed.left);
+    leave_cells(&flowed.river.amounts, part as u64, &mut flowed.left);
+    move_amounts(cells, &mut flowed.river.amounts, &flowed.left);
     Ok(flowed)
 }
 

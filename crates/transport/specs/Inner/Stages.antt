@@ -5,18 +5,17 @@ use Rattle.std.specs.Prelude.{ℕ, ◌+◌, ◌-◌, ◌*◌, ◌<◌, ◌≤◌
 use Rattle.numeric.specs.Table.{run}
 use Rattle.stoichiometry.specs.Substances.{substances}
 use Rattle.river.specs.Rivers.{most_cells}
-use Rattle.transport.specs.Flow.{passing}
 
 -- No amount is larger than `most`, either way.
 pub record AmountsWithin (most : ℕ) (amounts : List ℤ) : Type 0 where
   pub small : (k : ℕ) → k < most_cells * substances → nat_abs (get_or amounts k (pos 0)) ≤ most
 
--- What stays of amount k where a part passes; of all amounts.
-abbrev pub staying : ℕ → List ℤ → ℕ → ℤ
-staying part amounts k = get_or amounts k (pos 0) -ℤ passing part (get_or amounts k (pos 0))
+-- What stays of amount k; of all amounts.
+abbrev pub staying : List ℤ → List ℤ → ℕ → ℤ
+staying amounts left k = get_or amounts k (pos 0) -ℤ get_or left k (pos 0)
 
-abbrev pub stayed_of : ℕ → List ℤ → List ℤ
-stayed_of part amounts = run amounts 0 (most_cells * substances) (staying part amounts)
+abbrev pub stayed_of : List ℤ → List ℤ → List ℤ
+stayed_of amounts left = run amounts 0 (most_cells * substances) (staying amounts left)
 
 -- What stayed and what came, from the second cell on, where k counts from: what left the cell above comes.
 abbrev pub joining : List ℤ → List ℤ → ℕ → ℤ
