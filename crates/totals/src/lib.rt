@@ -4,7 +4,6 @@
 ghost use Rattle.std.specs.Prelude.{◌≡◌};
 ghost use Rattle.totals.specs.Totals.{totals_answer};
 
-use crate::cell_totals::totals_at;
 use numeric::in_range;
 use river::River;
 use rows::check;
@@ -13,7 +12,7 @@ use stoichiometry::{Refusal, SUBSTANCES, Set};
 mod cell_totals;
 
 // The six totals of one cell, grains.
-#[derive(Clone, Copy)]
+#[derive(Clone, Copy, Default)]
 pub struct Totals {
     pub carbon: i64,
     pub hydrogen: i64,
@@ -34,6 +33,6 @@ pub fn totals_of(set: Set, river: River, cell: u32) -> Result<Totals, Refusal>
     if !in_range(1, river.cells, cell) {
         return Err(Refusal::Place);
     }
-    let cell_start = (cell - 1) as usize * SUBSTANCES;
-    Ok(totals_at(set, &river.amounts, cell_start))
+    let (cells, _) = river.amounts.as_chunks::<SUBSTANCES>();
+    Ok(Totals::of_cell(set, &cells[(cell - 1) as usize]))
 }

@@ -17,7 +17,7 @@ use Rattle.numeric.specs.Check.{all_of, ◌when◌}
 use Rattle.numeric.proofs.Difference.{up, dn}
 use Rattle.numeric.proofs.Expression.{v, #, ◌⊕◌, ◌⊖◌, at_most, at_most_of, below_of}
 use Rattle.numeric.proofs.Bounds.{abs_mul, parts_mono}
-use Rattle.numeric.proofs.Quotient.{quot_neg, abs_quot}
+use Rattle.numeric.proofs.Quotient.{quot_neg, quot_split, abs_quot}
 use Rattle.numeric.proofs.CheckLaws.{row_in, row_beyond, first_last}
 use Rattle.numeric.proofs.TableLaws.{get_or-tab}
 use Rattle.stoichiometry.specs.Substances.{substances}
@@ -33,6 +33,10 @@ share part m = m * part / 10000
 
 pub share_le : (part m : ℕ) → part ≤ 10000 → share part m ≤ m
 share_le part m h = let k : m * part ≤ m * 10000 = mul-le-mul_left m h in omega arith
+
+-- The size divided first.
+pub share_parts : (m part : ℕ) → m / 10000 * part + m % 10000 * part / 10000 ≡ m * part / 10000
+share_parts m part = ap nat_abs (quot_split (pos m) part 10000 (lit< tt))
 
 -- Of a larger size no less passes and no less stays.
 share_mono : (part : ℕ) {m n : ℕ} → part ≤ 10000 → m ≤ n

@@ -2,13 +2,12 @@
 ghost use Rattle.std.specs.Prelude.{◌≡◌, true, false, ◌≤◌, pos};
 ghost use Rattle.stoichiometry.specs.Limits.{most_seconds};
 ghost use Rattle.stoichiometry.specs.Substances.{o2, place};
-ghost use Rattle.stoichiometry.specs.Levels.{level_of};
 ghost use Rattle.river.specs.Rivers.{amount_fits};
 ghost use Rattle.transport.specs.Air.{exchanged, gain, air_figure_wrong};
 
 use crate::Aired;
 use numeric::in_range;
-use stoichiometry::{Saturation, Seconds, Set};
+use stoichiometry::{Microgram, Saturation, Seconds, Set};
 
 // The air constant is in thousandths per day, the part of a difference that is exchanged in billionths.
 const BILLIONTHS_PER_THOUSANDTH: u64 = 1000000;
@@ -21,14 +20,6 @@ pub(crate) struct Exchange {
     pub constant: u32,
     pub seconds: u32,
     pub saturation: u32,
-}
-
-// The level of an amount of O2, µg. The amount is not negative, so the quotient is rounded down.
-fn oxygen_level(amount: i64) -> i64
-    requires amount { amount_fits (place o2) amount ≡ true }
-    ensures { result ≡ pos (level_of o2 amount) }
-{
-    amount / Set::GRAINS_PER_MICROGRAM_O
 }
 
 impl Exchange {
@@ -58,7 +49,8 @@ impl Exchange {
         requires amount { amount_fits (place o2) amount ≡ true }
         ensures { result ≡ gain self.now.constant self.now.seconds self.now.saturation amount }
     {
-        let difference = self.saturation as i64 - oxygen_level(amount);
+        let level = Microgram::Oxygen.level(amount) as i64;
+        let difference = self.saturation as i64 - level;
         difference * self.part() / BILLIONTHS * Set::GRAINS_PER_MICROGRAM_O
     }
 }

@@ -1,9 +1,9 @@
 // Flow: a part of each amount passes from its cell to the next, and from the last cell out of the river.
-ghost use Rattle.std.specs.Prelude.{◌≡◌, ◌≤◌, ◌*◌, ◌/◌, length, nat_abs};
-ghost use Rattle.stoichiometry.specs.Substances.{substances, most_net};
+ghost use Rattle.std.specs.Prelude.{◌≡◌, ◌≤◌, ◌*◌, ◌/◌, nat_abs};
+ghost use Rattle.stoichiometry.specs.Substances.{most_net};
 ghost use Rattle.river.specs.Rivers.{most_cells};
 ghost use Rattle.transport.specs.Flow.{passing, left_of, moved_of};
-ghost use Rattle.transport.specs.Inner.Stages.{AmountsWithin, stayed_of, joined_of};
+ghost use Rattle.transport.specs.Inner.Stages.{AmountsWithin};
 
 use crate::Flowed;
 use river::AMOUNTS;
@@ -13,6 +13,7 @@ use stoichiometry::SUBSTANCES;
 const WHOLE: u64 = Flowed::PART_MOST as u64;
 
 // The part of a size, rounded down. The size is divided first, since size × part does not fit.
+#[tactic(auto, using(crate::proofs::FlowLaws::share_parts))]
 fn part_of(size: u64, part: u64) -> u64
     requires { part ≤ 10000 }
     ensures { result ≡ size * part / 10000 }
@@ -20,7 +21,8 @@ fn part_of(size: u64, part: u64) -> u64
     size / WHOLE * part + size % WHOLE * part / WHOLE
 }
 
-// What passes of one amount, rounded toward zero: the part of its size, with its sign.
+// What passes of one amount, rounded toward zero: the part of its size, with its sign. Each sign has its own way: with
+// `unsigned_abs` and one way for both, a flow takes a tenth longer.
 fn passed(amount: i64, part: u64) -> i64
     requires { (part ≤ 10000) × (nat_abs amount ≤ most_net) }
     ensures { result ≡ passing part amount }
@@ -41,33 +43,17 @@ pub(crate) fn leave_cells(amounts: &[i64; AMOUNTS], part: u64, left: &mut [i64; 
     }
 }
 
-// What left is taken from each amount.
-fn take_left(amounts: &mut [i64; AMOUNTS], left: &[i64; AMOUNTS])
-    requires { AmountsWithin most_net amounts.old × AmountsWithin most_net left.now }
-    ensures { amounts.new ≡ stayed_of amounts.old left.now }
+// The amounts after: what left is taken from each, and comes into the next cell. Nothing comes into the first cell, nor
+// beyond the last.
+pub(crate) fn move_amounts(cells: usize, amounts: &mut [i64; AMOUNTS], left: &[i64; AMOUNTS])
+    requires cells_in_bounds { (1 ≤ cells) × (cells ≤ most_cells) }
+    requires amounts_within { AmountsWithin most_net amounts.old × AmountsWithin most_net left.now }
+    ensures { amounts.new ≡ moved_of cells amounts.old left.now }
 {
     for k in 0..AMOUNTS {
         amounts[k] -= left[k];
     }
-}
-
-// What left a cell comes into the next. Nothing comes into the first cell, nor beyond the last.
-fn add_came(cells: usize, amounts: &mut [i64; AMOUNTS], left: &[i64; AMOUNTS])
-    requires cells_in_bounds { (1 ≤ cells) × (cells ≤ most_cells) }
-    requires amounts_within { AmountsWithin (2 * most_net) amounts.old × AmountsWithin most_net left.now }
-    ensures { amounts.new ≡ joined_of cells amounts.old left.now }
-{
-    for k in 0..(cells - 1) * SUBSTANCES {
-        amounts[SUBSTANCES + k] += left[k];
+    for j in 0..(cells - 1) * SUBSTANCES {
+        amounts[SUBSTANCES + j] += left[j];
     }
-}
-
-// The amounts after: what stayed and what came.
-pub(crate) fn move_amounts(cells: usize, amounts: &mut [i64; AMOUNTS], left: &[i64; AMOUNTS])
-    requires cells_in_bounds { (1 ≤ cells) × (cells ≤ most_cells) × (length amounts.old ≡ most_cells * substances) }
-    requires amounts_within { AmountsWithin most_net amounts.old × AmountsWithin most_net left.now }
-    ensures { amounts.new ≡ moved_of cells amounts.old left.now }
-{
-    take_left(amounts, left);
-    add_came(cells, amounts, left);
 }

@@ -80,12 +80,9 @@ pub fn flow_river(river: River, part: u32) -> Result<Flowed, Refusal>
     if part > Flowed::PART_MOST {
         return Err(Refusal::Conditions);
     }
+    let cells = flowed.river.cells as usize;
     leave_cells(&flowed.river.amounts, part as u64, &mut flowed.left);
-    move_amounts(
-        flowed.river.cells as usize,
-        &mut flowed.river.amounts,
-        &flowed.left,
-    );
+    move_amounts(cells, &mut flowed.river.amounts, &flowed.left);
     Ok(flowed)
 }
 

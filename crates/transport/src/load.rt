@@ -1,15 +1,12 @@
 // Load: a whole number of either sign is added to one amount. Also what calls on one cell share: one amount and its
 // change.
-ghost use Rattle.std.specs.Prelude.{◌≡◌, ◌+◌, ◌*◌, ◌<◌, ◌≤◌, set, nat_abs, ◌+ℤ◌};
-ghost use Rattle.stoichiometry.specs.Substances.{substances, most_net};
+ghost use Rattle.std.specs.Prelude.{◌≡◌, ◌+◌, ◌*◌, ◌<◌, set, ◌+ℤ◌};
+ghost use Rattle.stoichiometry.specs.Substances.{substances};
 ghost use Rattle.stoichiometry.specs.Totals.{amount_at};
 ghost use Rattle.river.specs.Rivers.{most_cells, amount_fits};
 
-use river::{AMOUNTS, River, amount_fits};
+use river::{AMOUNTS, amount_fits};
 use stoichiometry::SUBSTANCES;
-
-// The amounts before and after are within River::NET_MOST of 0, so no load is more than twice that, either way.
-const LOAD_MOST: i64 = 2 * River::NET_MOST;
 
 // Amount s of cell c, both counted from 0; and a new one in its place.
 pub(crate) fn amount_at(amounts: &[i64; AMOUNTS], c: usize, s: usize) -> i64
@@ -28,18 +25,14 @@ pub(crate) fn set_amount(amounts: &mut [i64; AMOUNTS], c: usize, s: usize, x: i6
     amounts[c * SUBSTANCES + s] = x;
 }
 
-// Whether amount + added is in the bounds of the substance at place s. What is too large is not added, so that the sum
-// fits 64 bits.
+// Whether amount + added is in the bounds of the substance at place s. A sum that does not fit 64 bits is in none.
+#[tactic(auto, using(crate::proofs::LoadLaws::beyond_machine))]
 pub(crate) fn sum_fits(s: usize, amount: i64, added: i64) -> bool
     requires substance { s < substances }
-    requires amount { nat_abs amount ≤ most_net }
     ensures { result ≡ amount_fits s (amount +ℤ added) }
 {
-    if added < -LOAD_MOST {
-        return false;
+    match amount.checked_add(added) {
+        Some(sum) => amount_fits(s, sum),
+        None => false,
     }
-    if LOAD_MOST < added {
-        return false;
-    }
-    amount_fits(s, amount + added)
 }

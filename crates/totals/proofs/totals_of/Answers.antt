@@ -1,21 +1,21 @@
 -- `totals_of` meets its contract: each return is a case of the number, by that of the set. No assumptions.
-use Rattle.std.proofs.Common.{◌≡◌, ◌∙◌, refl, sym, ap, arith, ℕ, Result, Ok, Bool, true, false}
+use Rattle.std.proofs.Common.{◌≡◌, ◌∙◌, refl, sym, ap, subst, arith, rules, ◌-◌, ◌*◌, ◌/◌, length, List, ℤ, Result, Ok, Bool, true, false}
 use mathlib.Core.Bool.{not}
 use Rattle.std.proofs.lemmas.Result.{err_from_is_err_and}
 use Rattle.numeric.specs.Check.{first_holding}
-use Rattle.stoichiometry.specs.Substances.{held_at, contents}
+use Rattle.stoichiometry.specs.Substances.{substances}
 use Rattle.stoichiometry.specs.declared.Set.{Set}
 use Rattle.stoichiometry.specs.declared.refusals.Refusal.{Refusal}
 use Rattle.stoichiometry.specs.Sets.{set_number}
 use Rattle.rows.specs.Answers.{check_answer}
-use Rattle.stoichiometry.specs.Totals.{cell_total}
+use Rattle.stoichiometry.proofs.RefusalLaws.{answer-ok}
 use Rattle.stoichiometry.proofs.SetNumber.{accepted-passes}
 use Rattle.river.specs.declared.River.{River}
-use Rattle.river.specs.Rivers.{river_fits, river_wrong, cell_exists}
+use Rattle.river.specs.Rivers.{most_cells, river_fits, river_wrong, cell_exists}
 use Rattle.river.proofs.Rivers.{wrong_tested, river-cells, cell_bound}
-use Rattle.totals.specs.Totals.{totals_answer}
-use Rattle.totals.specs.Inner.TotalsCode.{weights_of, held_by, weighted_total, totals_at}
-use Rattle.totals.proofs.TotalsLaws.{cell_addable, set_refused, set_accepted, number_beside}
+use Rattle.totals.specs.Totals.{totals_in, totals_answer}
+use Rattle.totals.specs.Inner.TotalsCode.{AddableAmounts}
+use Rattle.totals.proofs.TotalsLaws.{chunk_of, cell_alone, cell_addable, set_refused, number_beside}
 use Rattle.totals.proofs.totals_of.Goals as goal
 
 -- A river by the test of it.
@@ -23,23 +23,25 @@ tested : (r : River) (b c : Bool) → b ≡ river_fits r.cells r.amounts r.carri
 tested r b c e is = wrong_tested r b e ∙ ap not is
 
 -- A set that passes its checks has the number 0.
-accepted : (set : Set) (r : River) (cell : ℕ) (checked : Result (Unit {0}) Refusal) → checked ≡ check_answer set → checked ≡ Ok tt
+accepted : (set : Set) (checked : Result (Unit {0}) Refusal) → checked ≡ check_answer set → checked ≡ Ok tt
     → set_number set ≡ 0
-accepted set r cell checked answered is = set_accepted set r cell (sym is ∙ answered)
+unfolding check_answer
+accepted set checked answered is = (answer-ok (set_number set) tt tt (sym is ∙ answered)).0
 
 -- Refused by 1, 2 or 3.
 pub returns-in_err-check : goal.returns-in_err-check
 returns-in_err-check c =
     let a = c.args in
     let refused = err_from_is_err_and c.from_residual.result c.from_residual.ensures.1 in
-    record { answer = rw (refused.1, refused.2) (set_refused a.set a.river a.cell _ (sym c.in_err-check.was ∙ c.check.ensures.answer)) }
+    let told = sym c.in_err-check.was ∙ c.check.ensures.answer in
+    record { answer = rw (refused.1, refused.2) (set_refused a.set a.river a.cell _ told) }
 
 -- By 4.
 pub returns-then-not-fits : goal.returns-then-not-fits
 unfolding totals_answer first_holding
 returns-then-not-fits c =
     let a = c.args in
-    let number = number_beside a.set a.river a.cell (accepted a.set a.river a.cell c.check.result c.check.ensures.answer c.in_ok-check.was) in
+    let number = number_beside a.set a.river a.cell (accepted a.set _ c.check.ensures.answer c.in_ok-check.was) in
     record { answer = rw (number, tested a.river _ _ c.fits.ensures.answer c.if-not-fits.true) refl }
 
 -- By 5.
@@ -47,29 +49,43 @@ pub returns-then-not-in_range : goal.returns-then-not-in_range
 unfolding totals_answer first_holding
 returns-then-not-in_range c =
     let a = c.args in
-    let number = number_beside a.set a.river a.cell (accepted a.set a.river a.cell c.check.result c.check.ensures.answer c.in_ok-check.was) in
+    let number = number_beside a.set a.river a.cell (accepted a.set _ c.check.ensures.answer c.in_ok-check.was) in
     let right = tested a.river _ _ c.fits.ensures.answer c.if-not-fits.false in
     let none : cell_exists a.river a.cell ≡ false = sym c.in_range.ensures ∙ c.if-not-in_range.true in
     record { answer = rw (number, right, none) refl }
 
-pub totals_at-requires : goal.totals_at-requires
-totals_at-requires c =
+pub bounds-cells-cell : goal.bounds-cells-cell
+bounds-cells-cell c =
     let a = c.args in
-    let number = accepted a.set a.river a.cell c.check.result c.check.ensures.answer c.in_ok-check.was in
     let right = tested a.river _ _ c.fits.ensures.answer c.if-not-fits.false in
-    let exists : cell_exists a.river a.cell ≡ true = sym c.in_range.ensures ∙ c.if-not-in_range.false in
+    let bound = cell_bound a.river a.cell (sym c.in_range.ensures ∙ c.if-not-in_range.false) in
     let cells = river-cells a.river right in
-    let bound = cell_bound a.river a.cell exists in
-    record {
-      cell_in_river = omega arith;
-      addable_totals = cell_addable a.set a.river (accepted-passes a.set number).0 right _ (omega arith);
-    }
+    let long : length a.river.amounts ≡ most_cells * substances = search rules in
+    let count : length c.as_chunks.result.0.now ≡ length a.river.amounts / substances =
+    c.as_chunks.ensures.front_len in
+    omega arith
+
+pub of_cell-requires : goal.of_cell-requires
+of_cell-requires c =
+    let a = c.args in
+    let number = accepted a.set _ c.check.ensures.answer c.in_ok-check.was in
+    let right = tested a.river _ _ c.fits.ensures.answer c.if-not-fits.false in
+    let bound = cell_bound a.river a.cell (sym c.in_range.ensures ∙ c.if-not-in_range.false) in
+    let cells = river-cells a.river right in
+    let chunk = chunk_of a.river.amounts _ (a.cell - 1) c.as_chunks.ensures.front (search rules) (omega arith) in
+    let addable = cell_addable a.set a.river (accepted-passes a.set number).0 right (a.cell - 1) (omega arith) in
+    subst (λ (amounts : List ℤ). AddableAmounts a.set amounts) (sym chunk) addable
 
 pub returns : goal.returns
-unfolding totals_answer first_holding totals_at weighted_total weights_of held_by cell_total contents held_at
+unfolding totals_answer first_holding
 returns c =
     let a = c.args in
-    let number = number_beside a.set a.river a.cell (accepted a.set a.river a.cell c.check.result c.check.ensures.answer c.in_ok-check.was) in
+    let number = number_beside a.set a.river a.cell (accepted a.set _ c.check.ensures.answer c.in_ok-check.was) in
     let right = tested a.river _ _ c.fits.ensures.answer c.if-not-fits.false in
     let exists : cell_exists a.river a.cell ≡ true = sym c.in_range.ensures ∙ c.if-not-in_range.false in
-    record { answer = ap Ok c.totals_at.ensures ∙ rw (number, right, exists) refl }
+    let bound = cell_bound a.river a.cell exists in
+    let cells = river-cells a.river right in
+    let chunk = chunk_of a.river.amounts _ (a.cell - 1) c.as_chunks.ensures.front (search rules) (omega arith) in
+    let totals : c.of_cell.result ≡ totals_in a.set a.river.amounts (a.cell - 1) =
+    c.of_cell.ensures ∙ rw chunk (cell_alone a.set a.river.amounts (a.cell - 1)) in
+    record { answer = rw (totals, number, right, exists) refl }

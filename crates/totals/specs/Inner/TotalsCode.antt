@@ -1,44 +1,48 @@
--- How the code adds up what a cell holds: totals by place, one list of weights for each, and the bounds that keep a
--- sum within 64 bits. Inner definitions that nobody need believe: proofs/TotalsLaws.antt ties them to Totals.antt.
+-- How the code adds up what a cell holds: what one of each substance holds, as six totals, and the bounds that keep the
+-- sums within 64 bits. Inner definitions that nobody need believe: proofs/TotalsLaws.antt ties them to Totals.antt.
 -- No assumptions.
-use Rattle.std.specs.Prelude.{ℕ, ◌+◌, ◌*◌, ◌≤◌, ◌<◌, List, [], ◌∷◌, map, get_or, ℤ, pos, nat_abs, ◌*ℤ◌}
-use Rattle.numeric.specs.Sum.{sum}
+use Rattle.std.specs.Prelude.{ℕ, ◌+◌, ◌*◌, ◌^◌, ◌≤◌, ◌<◌, List, map, get_or, ℤ, pos, nat_abs, ◌+ℤ◌, ◌*ℤ◌}
 use Rattle.stoichiometry.specs.declared.Set.{Set}
 use Rattle.stoichiometry.specs.Substances.{Substance, organic, nh4, no2, no3, hpo4, o2, hco3, h_plus, xp, h2o, n2}
-use Rattle.stoichiometry.specs.Substances.{substances, order, Composition, composition_of}
+use Rattle.stoichiometry.specs.Substances.{substances, order, Composition, composition_of, amount_of, contents}
+use Rattle.stoichiometry.specs.Substances.{Total, carbon, hydrogen, oxygen, nitrogen, phosphorus, charge}
 use Rattle.river.specs.Rivers.{highest_at}
 use Rattle.totals.specs.declared.Totals.{Totals}
 
--- A composition as a list: at t stands total t, 0 to 5.
-abbrev pub parts : Composition → List ℤ
-parts c = c.carbon ∷ c.hydrogen ∷ c.oxygen ∷ c.nitrogen ∷ c.phosphorus ∷ c.charge ∷ []
-
--- What one of a substance holds of total t, and the list of all substances.
-abbrev pub part_of : Set → ℕ → Substance → ℤ
-part_of set t s = get_or (parts (composition_of set s)) t (pos 0)
-
-unfoldable pub weights_of : Set → ℕ → List ℤ
-weights_of set t = map (part_of set t) order
-
--- What the amount at place s of the cell that starts at `start` holds, by a list of weights.
-unfoldable pub held_by : List ℤ → ℕ → List ℤ → ℕ → ℤ
-held_by amounts start weights s = get_or amounts (start + s) (pos 0) *ℤ get_or weights s (pos 0)
-
-unfoldable pub weighted_total : List ℤ → ℕ → List ℤ → ℤ
-weighted_total amounts start weights = sum substances (held_by amounts start weights)
-
--- The six totals of the cell that starts at `start`.
-unfoldable pub totals_at : Set → List ℤ → ℕ → Totals
-totals_at set amounts start =
-    let total : ℕ → ℤ = λ t. weighted_total amounts start (weights_of set t) in
+-- Six totals, and one of them.
+abbrev pub totals_from : (Total → ℤ) → Totals
+totals_from f =
     record {
-      carbon = total 0;
-      hydrogen = total 1;
-      oxygen = total 2;
-      nitrogen = total 3;
-      phosphorus = total 4;
-      charge = total 5;
+      carbon = f carbon;
+      hydrogen = f hydrogen;
+      oxygen = f oxygen;
+      nitrogen = f nitrogen;
+      phosphorus = f phosphorus;
+      charge = f charge;
     }
+
+abbrev pub total_in : Total → Totals → ℤ
+total_in carbon totals = totals.carbon
+total_in hydrogen totals = totals.hydrogen
+total_in oxygen totals = totals.oxygen
+total_in nitrogen totals = totals.nitrogen
+total_in phosphorus totals = totals.phosphorus
+total_in charge totals = totals.charge
+
+-- A composition as six totals; what one of each substance holds, in their order.
+abbrev pub as_totals : Composition → Totals
+as_totals c = totals_from (λ t. amount_of t c)
+
+unfoldable pub compositions : Set → List Totals
+compositions set = map (λ s. as_totals (composition_of set s)) order
+
+-- Totals and those of an amount of a substance of which one holds `one`.
+abbrev pub with_amount : Totals → ℤ → Totals → Totals
+with_amount sums amount one = totals_from (λ t. total_in t sums +ℤ amount *ℤ total_in t one)
+
+-- The sums fit 64 bits.
+pub record Addable (sums : Totals) (amount : ℤ) (one : Totals) : Type 0 where
+  pub fits : (t : Total) → nat_abs (total_in t sums) + nat_abs (amount *ℤ total_in t one) < 2 ^ 63
 
 -- The most that one of a substance holds of any total; of an organic 312,480 × 1,000.
 abbrev pub heaviest : Substance → ℕ
@@ -59,9 +63,6 @@ unfoldable pub most_held : ℕ → ℕ
 most_held s = nat_abs (highest_at s) * get_or (map heaviest order) s 0
 
 -- What each amount of a cell holds is in its bounds.
-pub record AddableAmounts (amounts : List ℤ) (start : ℕ) (weights : List ℤ) : Type 0 where
-  pub within : (s : ℕ) → s < substances → nat_abs (held_by amounts start weights s) ≤ most_held s
-
--- The same of every total.
-pub record AddableTotals (set : Set) (amounts : List ℤ) (start : ℕ) : Type 0 where
-  pub total : (t : ℕ) → t < 6 → AddableAmounts amounts start (weights_of set t)
+pub record AddableAmounts (set : Set) (amounts : List ℤ) : Type 0 where
+  pub within : (t : Total) (s : ℕ) → s < substances
+      → nat_abs (contents set t s (get_or amounts s (pos 0))) ≤ most_held s

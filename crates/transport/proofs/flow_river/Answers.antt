@@ -1,6 +1,6 @@
 -- `flow_river` meets its contract: past checks 4 and 6 check 8 does not hold either (proofs/FlowLaws.antt).
 -- No assumptions.
-use Rattle.std.proofs.Common.{rules, true}
+use Rattle.std.proofs.Common.{true}
 use borrow.Author.Tests.{le-leb}
 use Rattle.numeric.specs.Check.{first_holding}
 use Rattle.river.specs.Rivers.{river_wrong}
@@ -17,8 +17,7 @@ leave_cells-requires c =
 
 pub move_amounts-requires-clause-cells_in_bounds : goal.move_amounts-requires-clause-cells_in_bounds
 move_amounts-requires-clause-cells_in_bounds c =
-    let cells = river-cells c.args.river (wrong_tested c.args.river true c.if-not-fits.ensures.answer) in
-    (cells.0, cells.1, search rules)
+    river-cells c.args.river (wrong_tested c.args.river true c.if-not-fits.ensures.answer)
 
 pub move_amounts-requires-clause-amounts_within : goal.move_amounts-requires-clause-amounts_within
 move_amounts-requires-clause-amounts_within c =

@@ -13,14 +13,6 @@ amount_at-amount-requires-clause-cell c =
     (tested_known c.args.river c.args.cell (c.args.substance - 1) c.if-not-fits.ensures.answer c.if-not-in_range.ensures
     (omega arith)).below
 
-pub sum_fits-requires-clause-amount : goal.sum_fits-requires-clause-amount
-sum_fits-requires-clause-amount c =
-    let there = substance_bound c.args.substance (sym c.if-not-in_range-2.ensures) in
-    let known =
-    tested_known c.args.river c.args.cell (c.args.substance - 1) c.if-not-fits.ensures.answer c.if-not-in_range.ensures
-    (omega arith) in
-    rw (c.amount_at-amount.ensures, known.same) known.small
-
 pub overflow_add-amount : goal.overflow_add-amount
 overflow_add-amount c =
     let there = substance_bound c.args.substance (sym c.if-not-in_range-2.ensures) in
