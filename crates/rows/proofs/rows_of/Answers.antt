@@ -34,7 +34,7 @@ returns-then-rows_wrong-clause-answer c =
     let set = c.args.set in
     let right = sym c.fractions_wrong.ensures.answer ∙ c.if-fractions_wrong.false in
     let in_range = sym c.figures_wrong.ensures.answer ∙ c.if-figures_wrong.false in
-    let tested = c.rows_wrong.ensures set ∙ wrong_of_made set c.fill_rows.ensures.entries_after c.fill_rows.ensures.oxygen_after in
+    let tested = c.rows_wrong.ensures ∙ wrong_of_made set c.fill_rows.ensures.entries_after c.fill_rows.ensures.oxygen_after in
     sym (rows_refused set 2 (number_three set right in_range (sym tested ∙ c.if-rows_wrong.true)))
 
 -- Accepted.
@@ -43,7 +43,7 @@ returns-clause-answer c =
     let set = c.args.set in
     let right = sym c.fractions_wrong.ensures.answer ∙ c.if-fractions_wrong.false in
     let in_range = sym c.figures_wrong.ensures.answer ∙ c.if-figures_wrong.false in
-    let tested = c.rows_wrong.ensures set ∙ wrong_of_made set c.fill_rows.ensures.entries_after c.fill_rows.ensures.oxygen_after in
+    let tested = c.rows_wrong.ensures ∙ wrong_of_made set c.fill_rows.ensures.entries_after c.fill_rows.ensures.oxygen_after in
     let accepted = rows_accepted set (number_zero set right in_range (sym tested ∙ c.if-rows_wrong.false)) in
     (λ i. Ok (record { entries = c.fill_rows.ensures.entries_after i })) ∙ sym accepted
 
