@@ -20,16 +20,16 @@ lost_le : (set : Set) → Ranged set → set.yields.death * set.inert.algae ≤ 
 lost_le set g = mul-le-mul g.death g.algae
 
 pub overflow_mul-made : goal.overflow_mul-made
-overflow_mul-made c = omega (arith, made_le c.args.self.now.set c.args.self.now.ranged)
+overflow_mul-made c = omega (arith, made_le c.args.self.now.set.now c.args.self.now.ranged)
 
 pub overflow_cast-made : goal.overflow_cast-made
-overflow_cast-made c = sfits_of (omega (arith, made_le c.args.self.now.set c.args.self.now.ranged))
+overflow_cast-made c = sfits_of (omega (arith, made_le c.args.self.now.set.now c.args.self.now.ranged))
 
 pub overflow_mul-lost : goal.overflow_mul-lost
-overflow_mul-lost c = omega (arith, lost_le c.args.self.now.set c.args.self.now.ranged)
+overflow_mul-lost c = omega (arith, lost_le c.args.self.now.set.now c.args.self.now.ranged)
 
 pub overflow_cast-lost : goal.overflow_cast-lost
-overflow_cast-lost c = sfits_of (omega (arith, lost_le c.args.self.now.set c.args.self.now.ranged))
+overflow_cast-lost c = sfits_of (omega (arith, lost_le c.args.self.now.set.now c.args.self.now.ranged))
 
 pub others_of-d11-requires : goal.others_of-d11-requires
 others_of-d11-requires c = let f = c.args.self.now.ranged.fractions in (f xalg, f xi, f xi, nothing_small)
@@ -46,7 +46,7 @@ others_of-d14-requires c = let f = c.args.self.now.ranged.fractions in (f xalg, 
 pub returns : goal.returns
 unfolding process_at processes_of
 returns c =
-    let set = c.args.self.now.set in
+    let set = c.args.self.now.set.now in
     let g = c.args.self.now.ranged in
     let s1 = one_more set 10 0 xalg xi xi (none_stored set 10 _ _) (same_one refl) refl c.others_of-d11.ensures (c.put.ensures.entries_after, c.put.ensures.oxygen_after) in
     let s2 = one_more set 10 1 xalg xi xi s1 (same_one refl) refl c.others_of-d12.ensures (c.put-2.ensures.entries_after, c.put-2.ensures.oxygen_after) in

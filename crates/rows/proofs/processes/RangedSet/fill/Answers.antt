@@ -6,7 +6,7 @@ use Rattle.rows.proofs.processes.RangedSet.fill.Goals as goal
 
 pub returns : goal.returns
 returns c =
-    let set = c.args.self.now.set in
+    let set = c.args.self.now.set.now in
     let h = c.heterotrophs.ensures in
     let n = c.nitrifiers.ensures in
     let g = c.algae.ensures in

@@ -29,7 +29,7 @@ others_of-d6-requires c = let f = c.args.self.now.ranged.fractions in (f xh, f x
 pub returns : goal.returns
 unfolding process_at processes_of
 returns c =
-    let set = c.args.self.now.set in
+    let set = c.args.self.now.set.now in
     let g = c.args.self.now.ranged in
     let s1 =
     one_more set 0 0 xh ss xi (none_stored set 0 _ _) (same_two (figure_is g.aerobic) refl) refl c.others_of-d1.ensures (c.put.ensures.entries_after, c.put.ensures.oxygen_after) in

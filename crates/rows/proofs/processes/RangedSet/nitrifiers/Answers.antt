@@ -39,7 +39,7 @@ others_of-d10-requires c = let f = c.args.self.now.ranged.fractions in (f xn2, f
 pub returns : goal.returns
 unfolding process_at processes_of
 returns c =
-    let set = c.args.self.now.set in
+    let set = c.args.self.now.set.now in
     let g = c.args.self.now.ranged in
     let k7 = c.excess_of in
     let k9 = c.excess_of-2 in

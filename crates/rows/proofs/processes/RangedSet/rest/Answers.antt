@@ -20,7 +20,7 @@ others_of-d17-requires c = let f = c.args.self.now.ranged.fractions in (f xi, f 
 pub returns : goal.returns
 unfolding process_at processes_of
 returns c =
-    let set = c.args.self.now.set in
+    let set = c.args.self.now.set.now in
     let s1 =
     one_more set 14 0 xs ss xi (none_stored set 14 _ _) (same_two refl (figure_is c.args.self.now.ranged.hydrolysis)) refl
     c.others_of-d15.ensures (c.put.ensures.entries_after, c.put.ensures.oxygen_after) in
