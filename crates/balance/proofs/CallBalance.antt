@@ -13,11 +13,9 @@ use Rattle.numeric.proofs.CheckLaws.{and_left, and_right, none_holds, by_number}
 use Rattle.std.specs.Prelude.{Result}
 use Rattle.std.specs.Result.{result_unwrap_or}
 use Rattle.stoichiometry.specs.declared.refusals.Refusal.{Refusal}
-use Rattle.stoichiometry.specs.declared.refusals.Refusal.TheVariants.{Fractions, Figures, Rows, Place, Batches, Bounds}
-use Rattle.stoichiometry.specs.declared.refusals.Refusal.TheVariants.{River as RiverWrong, Conditions as ConditionsWrong}
-use Rattle.stoichiometry.specs.declared.refusals.Refusal.TheVariants.{Reading, Space, Text, Page}
 use Rattle.stoichiometry.specs.declared.Set.{Set}
 use Rattle.stoichiometry.specs.Refusals.{number}
+use Rattle.stoichiometry.proofs.RefusalLaws.{number-positive}
 use Rattle.stoichiometry.specs.Substances.{substances, o2, place, Total, contents}
 use Rattle.stoichiometry.specs.Totals.{cell_total}
 use Rattle.stoichiometry.proofs.Totals.{added}
@@ -59,21 +57,6 @@ step-passes set r conditions e =
     let none = none_holds _ refl e in
     (none.1.1.1.0, not-false _ none.1.1.1.1.1.1.0)
 
--- No refusal has the number 0.
-numbered : (refusal : Refusal) → number refusal ≡ 0 → ⊥
-numbered Fractions e = omega arith
-numbered Figures e = omega arith
-numbered Rows e = omega arith
-numbered RiverWrong e = omega arith
-numbered Place e = omega arith
-numbered ConditionsWrong e = omega arith
-numbered Batches e = omega arith
-numbered Bounds e = omega arith
-numbered Reading e = omega arith
-numbered Space e = omega arith
-numbered Text e = omega arith
-numbered Page e = omega arith
-
 module _ (set : Set) (n : ℕ) (r : River) (sound : SoundRiver n r) where
   accepted : (call : Call) (a : Answer) (q : River) → a.number ≡ 0 → SoundRiver n q
       → ChangedBy set n r q (λ i j t. booked set t i j call a) → CallKept set n r call a q
@@ -102,7 +85,7 @@ module _ (set : Set) (n : ℕ) (r : River) (sound : SoundRiver n r) where
   Kept call d = CallKept set n r call d.answer d.river
 
   refused_kept : (call : Call) (refusal : Refusal) → Kept call (refused_call r refusal)
-  refused_kept call refusal = refused call _ (numbered refusal)
+  refused_kept call refusal = refused call _ (number-positive refusal)
 
   -- Load: one amount changed.
   load_kept : (cell substance : ℕ) (x : ℤ)

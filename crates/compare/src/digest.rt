@@ -32,7 +32,8 @@ impl Digest {
     }
 }
 
-// The number of an answer, and the digest of all that it holds besides.
+// The number of an answer, and the digest of all that it holds besides. A number and not a `Result`, since the vectors
+// give both of every answer, a refused one too.
 #[derive(Clone, Copy, PartialEq, Eq)]
 pub(crate) struct Answer {
     pub number: u32,

@@ -5,7 +5,7 @@ use probe::{Amounts, Frame, Oxygen};
 use std::num::f32_from_bits_with_nan;
 use stoichiometry::number_of;
 
-// Form 0 is a mass, 1 a percentage, any other a missing reading.
+// Form 0 is a mass, 1 a percentage, any other a missing reading: numbers, as the vectors write them.
 fn oxygen(form: u32, bits: u32) -> Oxygen {
     match form {
         0 => Oxygen::Mass(f32_from_bits_with_nan(bits)),

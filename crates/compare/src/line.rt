@@ -1,17 +1,39 @@
 // A line of the vectors: a letter, and decimal numbers with a blank before each.
 use crate::digest::{Answer, Digest};
 use arrayvec::ArrayVec;
+use std::fmt;
 
-// More numbers than a line has: the figures of a set. What stands beyond them is left out.
+// More numbers than a line has: the figures of a set. The digits of further numbers are those of the last.
 const ROOM: usize = 96;
 
-// A line as far as it is read. Its numbers need no heap, which would be one thing more to trust.
+// A line as far as it is read. Its numbers are kept without their signs, and need no heap, which would be one thing
+// more to trust.
 #[derive(Drop)]
 pub(crate) struct Line {
     pub letter: u8,
-    numbers: ArrayVec<i64, ROOM>,
-    // The last number has a minus.
+    numbers: ArrayVec<u64, ROOM>,
+    // A minus stands in the line.
     negative: bool,
+}
+
+// What a line says that its call answers: any numbers of 64 bits, also such as no call answers.
+#[derive(Clone, Copy)]
+pub(crate) struct Expected {
+    pub number: u64,
+    digest: Digest,
+}
+
+impl Expected {
+    pub(crate) fn is_met_by(self, got: Answer) -> bool {
+        self.number == u64::from(got.number) && self.digest == got.digest
+    }
+}
+
+impl fmt::Display for Expected {
+    fn fmt<W: fmt::Write>(&self, f: &mut fmt::Formatter<W>) -> fmt::Result {
+        let digest = self.digest.0;
+        write!(f, "{} with {digest}", self.number)
+    }
 }
 
 impl Line {
@@ -34,31 +56,36 @@ impl Line {
     }
 
     fn begin_number(&mut self) {
-        self.negative = false;
         let _ = self.numbers.try_push(0);
     }
 
-    // A number beyond 64 bits becomes the extreme number on its side.
+    // From 19 digits on a number stays as it is.
     fn take_digit(&mut self, digit: u8) {
-        let negative = self.negative;
         if let Some(number) = self.numbers.last_mut() {
-            let tenfold = number.saturating_mul(10);
-            *number = if negative {
-                tenfold.saturating_sub(i64::from(digit))
-            } else {
-                tenfold.saturating_add(i64::from(digit))
-            };
+            if *number < 1000000000000000000 {
+                *number = *number * 10 + u64::from(digit);
+            }
         }
     }
 
     // Numbers are counted from 0; a number that the line does not have is 0.
-    pub(crate) fn signed(&self, place: usize) -> i64 {
+    fn number(&self, place: usize) -> u64 {
         self.numbers.get(place).copied().unwrap_or(0)
+    }
+
+    // A number below zero where a minus stands in the line; beyond 64 bits it is the extreme number on its side.
+    pub(crate) fn signed(&self, place: usize) -> i64 {
+        let size = self.number(place);
+        if self.negative {
+            0i64.saturating_sub_unsigned(size)
+        } else {
+            0i64.saturating_add_unsigned(size)
+        }
     }
 
     // A number of 32 bits without its sign, or the largest of them.
     pub(crate) fn figure(&self, place: usize) -> u32 {
-        u32::try_from(self.signed(place).unsigned_abs()).unwrap_or(u32::MAX)
+        u32::try_from(self.number(place)).unwrap_or(u32::MAX)
     }
 
     // A number that is a place or a length.
@@ -67,16 +94,17 @@ impl Line {
     }
 
     // The numbers after the first.
-    pub(crate) fn others(&self) -> &[i64] {
+    pub(crate) fn others(&self) -> &[u64] {
         self.numbers.get(1..).unwrap_or(&[])
     }
 
-    // The number that a call answers stands last but one, the digest last.
-    pub(crate) fn expected(&self) -> Answer {
-        let count = self.numbers.len();
-        Answer {
-            number: self.figure(count.saturating_sub(2)),
-            digest: Digest(u64::from(self.figure(count.saturating_sub(1)))),
+    // The number that a call answers stands last but one, the digest last; where the line has none, it is 0.
+    pub(crate) fn expected(&self) -> Expected {
+        let mut last = self.numbers.iter().rev().copied();
+        let digest = Digest(last.next().unwrap_or(0));
+        Expected {
+            number: last.next().unwrap_or(0),
+            digest,
         }
     }
 }

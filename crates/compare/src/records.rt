@@ -45,12 +45,14 @@ impl Text {
         &self.bytes[..self.length]
     }
 
-    // Puts numbers, as bytes, from a place on, where all of them are in the room.
-    pub(crate) fn put(&mut self, place: usize, numbers: &[i64]) {
+    // Puts numbers, as bytes, from a place on, where all of them and one byte more are in the room.
+    pub(crate) fn put(&mut self, place: usize, numbers: &[u64]) {
         let end = place.saturating_add(numbers.len());
-        if let Some(bytes) = self.bytes.get_mut(place..end) {
-            for (byte, number) in bytes.iter_mut().zip(numbers) {
-                *byte = (*number & 0xff) as u8;
+        if end < ROOM {
+            if let Some(bytes) = self.bytes.get_mut(place..end) {
+                for (byte, number) in bytes.iter_mut().zip(numbers) {
+                    *byte = (*number % 256) as u8;
+                }
             }
         }
     }

@@ -6,6 +6,10 @@ use Rattle.kinetics.specs.declared.Conditions.{Conditions}
 use Rattle.kinetics.specs.declared.Temperatures.{Temperatures}
 use Rattle.stoichiometry.specs.Limits.{most_seconds}
 
+-- Every temperature factor the same, millionths.
+abbrev pub all_temperatures : ℕ → Temperatures
+all_temperatures factor = record { xh = factor; xn1 = factor; xn2 = factor; algae = factor; hydrolysis = factor }
+
 -- Every temperature factor is at most 4,000,000.
 unfoldable pub temperatures_fit : Temperatures → Bool
 temperatures_fit t =

@@ -3,7 +3,7 @@
 #![tactic(auto)]
 
 ghost use Rattle.std.specs.Prelude.{◌≡◌};
-ghost use Rattle.kinetics.specs.Conditions.{temperatures_fit, conditions_wrong};
+ghost use Rattle.kinetics.specs.Conditions.{all_temperatures, temperatures_fit, conditions_wrong};
 
 use numeric::in_range;
 use stoichiometry::Seconds;
@@ -20,6 +20,19 @@ pub struct Temperatures {
 
 impl Temperatures {
     pub const MOST: u32 = 4000000;
+
+    // Every factor the same, millionths.
+    pub fn all(factor: u32) -> Temperatures
+        ensures answer { result ≡ all_temperatures factor }
+    {
+        Temperatures {
+            xh: factor,
+            xn1: factor,
+            xn2: factor,
+            algae: factor,
+            hydrolysis: factor,
+        }
+    }
 
     // Every factor is at most MOST.
     #[tactic(auto, unfolding(crate::specs::Conditions::temperatures_fit))]
@@ -42,14 +55,14 @@ pub struct Conditions {
 
 impl Conditions {
     pub const LIGHT_MOST: u32 = 1000000;
-}
 
-// Check 6 of a step.
-#[tactic(auto, unfolding(crate::specs::Conditions::conditions_wrong))]
-pub fn conditions_wrong(conditions: Conditions) -> bool
-    ensures answer { result ≡ conditions_wrong conditions }
-{
-    let seconds = in_range(Seconds::LEAST, Seconds::MOST, conditions.seconds);
-    let light = conditions.light <= Conditions::LIGHT_MOST;
-    !(seconds && light && conditions.temperatures.fit())
+    // Check 6 of a step.
+    #[tactic(auto, unfolding(crate::specs::Conditions::conditions_wrong))]
+    pub fn are_wrong(self) -> bool
+        ensures answer { result ≡ conditions_wrong self }
+    {
+        let seconds = in_range(Seconds::LEAST, Seconds::MOST, self.seconds);
+        let light = self.light <= Conditions::LIGHT_MOST;
+        !(seconds && light && self.temperatures.fit())
+    }
 }

@@ -25,7 +25,7 @@ use Rattle.river.specs.Cells.{byte, letter_of, letter_number, letter_answer}
 use Rattle.river.specs.Inner.Runs.{net_at}
 use Rattle.river.proofs.Bounds.{fits-level}
 use Rattle.river.proofs.Levels.{level_bound}
-use Rattle.river.proofs.Rivers.{amount_fits_at, cell_bound}
+use Rattle.river.proofs.Rivers.{river-cells, amount_fits_at, cell_bound}
 use Rattle.text.specs.Blocks.{part}
 use Rattle.text.specs.Decimals.{columns, plain}
 use Rattle.text.proofs.BlockLaws.{blocks-length, part-blocks}
@@ -99,14 +99,17 @@ module _ (r : River) (right : river_wrong r ≡ false) (c : ℕ) (inside : c < r
 
   pub cell_fits_lem : CellFits r.amounts c
   unfolding every
-  cell_fits_lem = (
-    λ s h.
-        let within : s < substances = omega arith in
-        let counted = every_at 7 s (λ k. not (net_at k)) refl (omega arith) in
-        fits-level s (amount_at r.amounts c s) within (not-true (net_at s) counted)
-        (amount_fits_at r right c s inside within),
-    (six r.amounts c, levels_bound),
-  )
+  cell_fits_lem =
+      let most = (river-cells r right).1 in
+      record {
+        cell = omega arith;
+        small = λ s h.
+            let within : s < substances = omega arith in
+            let counted = every_at 7 s (λ k. not (net_at k)) refl (omega arith) in
+            (fits-level s (amount_at r.amounts c s) within (not-true (net_at s) counted)
+            (amount_fits_at r right c s inside within)).1;
+        levels = (six r.amounts c, levels_bound);
+      }
 
   -- So each takes at most 8 of its 10 columns, and shows every digit down to the thousandth of a gram.
   pub levels-shown : (i : ℕ)

@@ -29,6 +29,9 @@ impl Page {
     pub const LINE_FEED: usize = Page::LEVELS_START + Page::LEVELS * Page::LEVEL_COLUMNS;
 
     pub const ROW_BYTES: usize = Page::LINE_FEED + 1;
+
+    // Bytes of the longest page.
+    pub const BYTES_MOST: usize = River::CELLS_MOST * Page::ROW_BYTES;
 }
 
 // Writes the river's page to the start of the output; bytes past it stay. Refuses by the first check that holds (4, 12),
@@ -40,10 +43,9 @@ pub fn write_page(river: River, output: &mut [u8]) -> Result<(), Refusal>
     if !river.fits() {
         return Err(Refusal::River);
     }
-    let n = river.cells as usize;
-    if output.len() < n * Page::ROW_BYTES {
+    if output.len() < river.cells as usize * Page::ROW_BYTES {
         return Err(Refusal::Page);
     }
-    write_rows(output, n, &river.amounts);
+    write_rows(output, &river);
     Ok(())
 }

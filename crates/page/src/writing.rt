@@ -1,88 +1,95 @@
 // Rows written into lent bytes, cell by cell.
-ghost use Rattle.std.specs.Prelude.{◌≡◌, ℕ, ◌+◌, ◌*◌, ◌/◌, ◌≤◌, ◌<◌, nat_abs, length};
-ghost use Rattle.stoichiometry.specs.Levels.{most_level};
+ghost use Rattle.std.specs.Prelude.{◌≡◌, ◌*◌, ◌/◌, ◌≤◌, ◌<◌, false, nat_abs, length};
+ghost use Rattle.stoichiometry.specs.Substances.{substances};
+ghost use Rattle.stoichiometry.specs.Levels.{in_microgram, most_level};
 ghost use Rattle.stoichiometry.specs.Totals.{amount_at};
-ghost use Rattle.river.specs.Rivers.{most_cells};
-ghost use Rattle.text.specs.Blocks.{blocks};
+ghost use Rattle.river.specs.Rivers.{river_wrong};
 ghost use Rattle.text.specs.Writes.{put};
-ghost use Rattle.text.specs.Inner.Stages.{packed};
-ghost use Rattle.page.specs.Pages.{level_columns, row_characters, row_bytes, grams, row, levels_at, row_of};
-ghost use Rattle.page.specs.Inner.Stages.{levels_text, figures_of, marks_of, LevelFits, CellFits, LevelsWithin};
+ghost use Rattle.page.specs.Pages.{level_columns, row_bytes, grams, row, levels_at, row_of, page_of};
+ghost use Rattle.page.specs.Inner.Stages.{levels_text, pair_of, justified_of, whole_of, CellFits, LevelsWithin};
 
 use crate::Page;
-use river::{AMOUNTS, letter_by};
-use stoichiometry::{SUBSTANCES, Set, place};
-
-// How much of an amount is a µg: of an organic 1, of the others as many grains.
-const ORGANIC: u64 = 1;
-
-const N: u64 = Set::GRAINS_PER_MICROGRAM_N as u64;
-
-const P: u64 = Set::GRAINS_PER_MICROGRAM_P as u64;
-
-const O: u64 = Set::GRAINS_PER_MICROGRAM_O as u64;
+use river::{AMOUNTS, River, letter_by};
+use stoichiometry::{Microgram, SUBSTANCES, place};
 
 // Where NH4 and O2, by which the letter goes, stand among the levels of a row.
 const AMMONIUM: usize = 1;
 
 const OXYGEN: usize = 5;
 
-// The level of the substance at place s in cell c, µg, rounded down. No such amount is below zero.
-fn level(amounts: &[i64; AMOUNTS], c: usize, s: usize, microgram: u64) -> u32
-    requires { (c < most_cells) × LevelFits (amount_at amounts.now c s) s microgram }
-    ensures { result ≡ nat_abs (amount_at amounts.now c s) / microgram }
-{
-    (amounts[c * SUBSTANCES + s] as u64 / microgram) as u32
+// Cell c of a river, counted from 0, whose levels are in their bounds.
+#[derive(Clone, Copy)]
+struct Cell<'a> {
+    amounts: &'a [i64; AMOUNTS],
+    c: usize,
+    ghost fits: { CellFits amounts.now c },
 }
 
-// The levels of cell c that a row has, in its order.
-fn levels_of(amounts: &[i64; AMOUNTS], c: usize) -> [u32; Page::LEVELS]
-    requires { (c < most_cells) × CellFits amounts.now c }
-    ensures { result ≡ levels_at amounts.now c }
-{
-    [
-        level(amounts, c, place::SS, ORGANIC),
-        level(amounts, c, place::NH4, N),
-        level(amounts, c, place::NO2, N),
-        level(amounts, c, place::NO3, N),
-        level(amounts, c, place::HPO4, P),
-        level(amounts, c, place::O2, O),
-    ]
-}
+impl Cell<'_> {
+    // The level of the substance at place s, µg, rounded down.
+    fn level(&self, s: usize, microgram: Microgram) -> u32
+        requires place { s < substances }
+        requires within { nat_abs (amount_at self.now.amounts.now self.now.c s) / in_microgram microgram ≤ most_level }
+        ensures { result ≡ nat_abs (amount_at self.now.amounts.now self.now.c s) / in_microgram microgram }
+    {
+        microgram.level(self.amounts[self.c * SUBSTANCES + s]) as u32
+    }
 
-// What stands in the last eight columns of a level of so many whole grams where its digits are 0, as the bytes of one
-// number, the first lowest: blanks before the first digit, zeros, and the point.
-fn marks(grams: u32) -> u64
-    ensures { result ≡ packed (marks_of grams) }
-{
-    if grams < 10 {
-        0x3030302e30202020
-    } else if grams < 100 {
-        0x3030302e30302020
-    } else if grams < 1000 {
-        0x3030302e30303020
-    } else {
-        0x3030302e30303030
+    // The levels that a row has, in its order.
+    #[tactic(auto, unfolding(crate::specs::Pages::levels_at, stoichiometry::specs::Levels::level_of))]
+    fn levels(&self) -> [u32; Page::LEVELS]
+        ensures { result ≡ levels_at self.now.amounts.now self.now.c }
+    {
+        [
+            self.level(place::SS, Microgram::Organic),
+            self.level(place::NH4, Microgram::Nitrogen),
+            self.level(place::NO2, Microgram::Nitrogen),
+            self.level(place::NO3, Microgram::Nitrogen),
+            self.level(place::HPO4, Microgram::Phosphorus),
+            self.level(place::O2, Microgram::Oxygen),
+        ]
     }
 }
 
-// The last eight columns of a level, as the bytes of one number. Grams and thousandths stand side by side in it, then
-// their pairs of digits, then their digits, so that the hundreds of both and the tens of all four pairs are taken at
-// once: 5243 / 524288 is a hundredth of a number up to 1,024, 103 / 1024 a tenth of one below 100, rounded down, and
-// the masks drop parts of a whole. The thousandths have no fourth digit: the point stands in its place.
-fn figures(level: u32) -> u64
-    requires { level ≤ most_level }
-    ensures { result ≡ packed (figures_of level) }
+// The numbers below 100 in two columns: with both digits, and with a blank for a first digit of 0. By tables, since with
+// computed digits a page takes a third longer.
+static PAIRS: [u8; 200] =
+    *b"00010203040506070809101112131415161718192021222324252627282930313233343536373839404142434445464748495051525354555657585960616263646566676869707172737475767778798081828384858687888990919293949596979899";
+
+static JUSTIFIED: [u8; 200] =
+    *b" 0 1 2 3 4 5 6 7 8 9101112131415161718192021222324252627282930313233343536373839404142434445464748495051525354555657585960616263646566676869707172737475767778798081828384858687888990919293949596979899";
+
+#[tactic(auto, using(crate::proofs::FigureLaws::pair_at))]
+fn pair(n: u32) -> [u8; 2]
+    requires { n < 100 }
+    ensures { result ≡ pair_of n }
 {
-    let thousandths = level / 1000;
-    let grams = thousandths / 1000;
-    let halves = grams as u64 + (thousandths - grams * 1000) as u64 * 4294967296;
-    let hundreds = halves * 5243 / 524288 & 0x0000007f0000007f;
-    let pairs = hundreds + (halves - hundreds * 100) * 65536;
-    let tens = pairs * 103 / 1024 & 0x000f000f000f000f;
-    let digits = tens + (pairs - tens * 10) * 256;
-    // Joined and not added, so that a compiler stores the bytes of the number at once.
-    digits | marks(grams)
+    let at = n as usize * 2;
+    [PAIRS[at], PAIRS[at + 1]]
+}
+
+#[tactic(auto, using(crate::proofs::FigureLaws::justified_at))]
+fn justified(n: u32) -> [u8; 2]
+    requires { n < 100 }
+    ensures { result ≡ justified_of n }
+{
+    let at = n as usize * 2;
+    [JUSTIFIED[at], JUSTIFIED[at + 1]]
+}
+
+// The whole grams of a level over their four columns.
+fn write_whole(columns: &mut [u8], grams: u32)
+    requires { (length columns.old ≡ 4) × (grams < 10000) }
+    ensures { columns.new ≡ whole_of grams }
+{
+    columns[0] = b' ';
+    columns[1] = b' ';
+    if grams < 100 {
+        columns[2..].copy_from_slice(&justified(grams));
+    } else {
+        columns[..2].copy_from_slice(&justified(grams / 100));
+        columns[2..].copy_from_slice(&pair(grams % 100));
+    }
 }
 
 // A level over its columns.
@@ -90,9 +97,16 @@ fn write_grams(columns: &mut [u8], level: u32)
     requires { (length columns.old ≡ level_columns) × (level ≤ most_level) }
     ensures { columns.new ≡ grams level }
 {
+    let thousandths = level / 1000;
+    let grams = thousandths / 1000;
+    // Not `thousandths % 1000`, with which a page takes longer.
+    let rest = thousandths - grams * 1000;
     columns[0] = b' ';
     columns[1] = b' ';
-    columns[2..].copy_from_slice(&figures(level).to_le_bytes());
+    write_whole(&mut columns[2..6], grams);
+    columns[6] = b'.';
+    columns[7] = b'0' + (rest / 100) as u8;
+    columns[8..].copy_from_slice(&pair(rest % 100));
 }
 
 // The levels of a row over their columns.
@@ -119,24 +133,28 @@ fn write_row(text: &mut [u8], cell: u8, letter: u8, levels: &[u32; Page::LEVELS]
     text[Page::LINE_FEED] = b'\n';
 }
 
-// The row of cell c, from 0, over its bytes.
-fn write_cell(text: &mut [u8], c: usize, amounts: &[i64; AMOUNTS])
-    requires { (length text.old ≡ row_bytes) × (c < most_cells) × CellFits amounts.now c }
-    ensures { text.new ≡ row_of amounts.now c }
+// The row of a cell over its bytes.
+fn write_cell(text: &mut [u8], cell: &Cell)
+    requires { length text.old ≡ row_bytes }
+    ensures { text.new ≡ row_of cell.now.amounts.now cell.now.c }
 {
-    let levels = levels_of(amounts, c);
+    let levels = cell.levels();
     let letter = letter_by(u64::from(levels[OXYGEN]), u64::from(levels[AMMONIUM]));
-    write_row(text, (c + 1) as u8, letter.byte(), &levels);
+    write_row(text, (cell.c + 1) as u8, letter.byte(), &levels);
 }
 
-// The rows of the first n cells.
-pub(crate) fn write_rows(out: &mut [u8], n: usize, amounts: &[i64; AMOUNTS])
-    requires room { (n ≤ most_cells) × (n * row_bytes ≤ length out.old) }
-    requires cells_fit { (c : ℕ) → c < n → CellFits amounts.now c }
-    ensures { out.new ≡ put out.old 0 (blocks n (row_of amounts.now)) }
+// The rows of a river's cells.
+pub(crate) fn write_rows(out: &mut [u8], river: &River)
+    requires river { river_wrong river.now ≡ false }
+    requires room { river.now.cells * row_bytes ≤ length out.old }
+    ensures { out.new ≡ put out.old 0 (page_of river.now) }
 {
-    for c in 0..n {
+    for c in 0..river.cells as usize {
         let at = c * Page::ROW_BYTES;
-        write_cell(&mut out[at..at + Page::ROW_BYTES], c, amounts);
+        let cell = Cell {
+            amounts: &river.amounts,
+            c,
+        };
+        write_cell(&mut out[at..at + Page::ROW_BYTES], &cell);
     }
 }

@@ -1,13 +1,12 @@
 -- The probe frame (scope, "Probe frame, letter, record"): what its readings become, or the number it is refused with.
 -- Laws: proofs/FrameLaws.antt. No assumptions.
-use Rattle.std.specs.Prelude.{ℕ, ◌*◌, Bool, true, not, ◌&&◌, cond, [], ◌∷◌, ltb, ℤ, pos, Float, Option, Some, None}
-use Rattle.std.specs.Prelude.{Result, Ok, Err}
+use Rattle.std.specs.Prelude.{ℕ, ◌*◌, Bool, true, not, ◌&&◌, [], ◌∷◌, ltb, ℤ, pos, Float, Option, Some, None}
+use Rattle.std.specs.Prelude.{Result}
 use Rattle.numeric.specs.Check.{first_holding, ◌when◌}
 use Rattle.stoichiometry.specs.Limits.{most_saturation}
 use Rattle.stoichiometry.specs.Refusals.{answer_of}
 use Rattle.stoichiometry.specs.Substances.{grains_per_microgram_o, grains_per_microgram_n, grains_per_microgram_p}
 use Rattle.stoichiometry.specs.declared.refusals.Refusal.{Refusal}
-use Rattle.stoichiometry.specs.declared.refusals.Refusal.TheVariants.{Reading}
 use Rattle.probe.specs.declared.Amounts.{Amounts}
 use Rattle.probe.specs.declared.Frame.{Frame}
 use Rattle.probe.specs.declared.Oxygen.{Oxygen}
@@ -56,10 +55,6 @@ frame_amounts f saturation = record {
   phosphate = pos (mass_micrograms f.phosphate * grains_per_microgram_p);
   oxygen = oxygen_amount f.oxygen saturation;
 }
-
--- What is made of readings, or the refusal of one that does not fit.
-abbrev pub if_fits : {A : Type 0} → Bool → A → Result A Refusal
-if_fits fits done = cond fits (Ok done) (Err Reading)
 
 -- The answer of `amounts_of`: 6, 9, or the amounts.
 unfoldable pub frame_answer : Frame → ℕ → Result Amounts Refusal

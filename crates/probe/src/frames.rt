@@ -2,20 +2,14 @@
 // of a µg.
 ghost use Rattle.std.specs.Prelude.{◌≡◌, ◌*◌, ◌≤◌, pos};
 ghost use Rattle.stoichiometry.specs.Limits.{most_saturation};
-ghost use Rattle.stoichiometry.specs.Substances.{grains_per_microgram_n};
+ghost use Rattle.stoichiometry.specs.Levels.{in_microgram};
 ghost use Rattle.probe.specs.Readings.{reading_fits, scaled_floor};
-ghost use Rattle.probe.specs.Frames.{if_fits, oxygen_fits, oxygen_amount, frame_fits, frame_amounts};
+ghost use Rattle.probe.specs.Frames.{oxygen_fits, oxygen_amount, frame_fits, frame_amounts};
+ghost use Rattle.probe.specs.Inner.Answers.{if_fits};
 
 use crate::readings::{Scale, reading_fits, scaled_floor};
 use crate::{Amounts, Frame, Oxygen};
-use stoichiometry::{Refusal, Set};
-
-// Grains in one µg of the element.
-const OXYGEN: u64 = Set::GRAINS_PER_MICROGRAM_O as u64;
-
-const NITROGEN: u64 = Set::GRAINS_PER_MICROGRAM_N as u64;
-
-const PHOSPHORUS: u64 = Set::GRAINS_PER_MICROGRAM_P as u64;
+use stoichiometry::{Microgram, Refusal};
 
 // Masses are in g.
 const MASS: Scale = Scale {
@@ -23,13 +17,13 @@ const MASS: Scale = Scale {
     denominator: 1,
 };
 
-// Grains of a reading: its exact value times the scale, rounded down to µg; weight: grains in one µg.
-fn grains(x: f32, scale: Scale, weight: u64) -> Result<i64, Refusal>
-    requires { weight ≤ grains_per_microgram_n }
-    ensures { result ≡ if_fits (reading_fits x) (pos (scaled_floor x scale.numerator scale.denominator * weight)) }
+// Grains of a reading: its exact value times the scale, rounded down to µg, times the grains in one.
+fn grains(x: f32, scale: Scale, microgram: Microgram) -> Result<i64, Refusal>
+    ensures { result ≡ if_fits (reading_fits x)
+        (pos (scaled_floor x scale.numerator scale.denominator * in_microgram microgram)) }
 {
     if reading_fits(x) {
-        Ok((scaled_floor(x, scale) * weight) as i64)
+        Ok((scaled_floor(x, scale) * microgram.grains()) as i64)
     } else {
         Err(Refusal::Reading)
     }
@@ -44,8 +38,8 @@ fn oxygen_amount(oxygen: Oxygen, saturation: u32) -> Result<Option<i64>, Refusal
         denominator: 100,
     };
     match oxygen {
-        Oxygen::Mass(x) => Ok(Some(grains(x, MASS, OXYGEN)?)),
-        Oxygen::Percent(x) => Ok(Some(grains(x, percent, OXYGEN)?)),
+        Oxygen::Mass(x) => Ok(Some(grains(x, MASS, Microgram::Oxygen)?)),
+        Oxygen::Percent(x) => Ok(Some(grains(x, percent, Microgram::Oxygen)?)),
         Oxygen::Missing => Ok(None),
     }
 }
@@ -57,10 +51,10 @@ pub(crate) fn amounts(frame: Frame, saturation: u32) -> Result<Amounts, Refusal>
     ensures { result ≡ if_fits (frame_fits frame) (frame_amounts frame saturation) }
 {
     Ok(Amounts {
-        ammonium: grains(frame.ammonium, MASS, NITROGEN)?,
-        nitrite: grains(frame.nitrite, MASS, NITROGEN)?,
-        nitrate: grains(frame.nitrate, MASS, NITROGEN)?,
-        phosphate: grains(frame.phosphate, MASS, PHOSPHORUS)?,
+        ammonium: grains(frame.ammonium, MASS, Microgram::Nitrogen)?,
+        nitrite: grains(frame.nitrite, MASS, Microgram::Nitrogen)?,
+        nitrate: grains(frame.nitrate, MASS, Microgram::Nitrogen)?,
+        phosphate: grains(frame.phosphate, MASS, Microgram::Phosphorus)?,
         oxygen: oxygen_amount(frame.oxygen, saturation)?,
     })
 }

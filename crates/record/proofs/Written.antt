@@ -8,16 +8,16 @@ use native.Mathlib.Omega.{arith}
 use borrow.Author.Tests.{lt-ltb, le-ltb}
 use lib.Dec.{eqb}
 use borrow.Rule.Slice.PartMut.{put_mid}
-use lib.ListN.{length, take, drop, set, length-append}
+use lib.ListN.{length, take, drop, set, length-append, length-take, length-drop}
 use lib.Seq.{take_at}
 use lib.IntN.{ℤ}
 use Rattle.numeric.specs.Check.{first_holding}
 use Rattle.river.specs.declared.River.{River}
 use Rattle.river.specs.Rivers.{river_wrong}
 use Rattle.text.specs.Decimals.{plain, decimal}
-use Rattle.text.specs.Writes.{put, put_within, copied}
+use Rattle.text.specs.Writes.{put, copied}
 use Rattle.text.proofs.DecimalLaws.{plain-length, decimal-length}
-use Rattle.text.proofs.WriteLaws.{put-length, put_all, put_within_lem, copied-accepted, grow, store, mid_written, front_written}
+use Rattle.text.proofs.WriteLaws.{put-length, put_all, copied-accepted, grow, store, mid_written, front_written}
 use Rattle.record.specs.Lines.{line_bytes, cell_bytes, front, line, record_of}
 use Rattle.record.specs.Inner.Stages.{labelled}
 use Rattle.record.specs.Writing.{write_number, output_after, work_after}
@@ -36,13 +36,13 @@ front_put l a label x₁ x₂ room two two' e₁ e₂ =
     store l _ 0 5 5 32 (a ++ (32 ∷ []) ++ label) five refl (omega arith) p₃
 
 -- One line over its bytes: what stands before the value, the value and the line feed.
-pub line_written : (l l₂ x₁ x₂ : List ℕ) (cell : ℕ) (label : List ℕ) (z : ℤ) → length l ≡ line_bytes → length label ≡ 2
+pub line_written : (l x₁ x₂ x₃ : List ℕ) (cell : ℕ) (label : List ℕ) (z : ℤ) → length l ≡ line_bytes → length label ≡ 2
     → x₁ ≡ plain 2 32 cell
     → x₂ ≡ label
-    → l₂ ≡ put_within (set (put_mid 3 2 (set (x₁ ++ drop 2 l) 2 32) x₂) 5 32) 6 (decimal 20 z)
-    → set l₂ 26 10 ≡ labelled cell label z
+    → x₃ ≡ decimal (length (take 20 (drop 6 (set (put_mid 3 2 (set (x₁ ++ drop 2 l) 2 32) x₂) 5 32)))) z
+    → set (put_mid 6 20 (set (put_mid 3 2 (set (x₁ ++ drop 2 l) 2 32) x₂) 5 32) x₃) 26 10 ≡ labelled cell label z
 unfolding labelled
-line_written l l₂ x₁ x₂ cell label z long two e₁ e₂ e =
+line_written l x₁ x₂ x₃ cell label z long two e₁ e₂ e =
     let a = plain 2 32 cell ++ (32 ∷ []) ++ label ++ (32 ∷ []) in
     let b = a ++ decimal 20 z in
     let l₁ = set (put_mid 3 2 (set (x₁ ++ drop 2 l) 2 32) x₂) 5 32 in
@@ -51,8 +51,11 @@ line_written l l₂ x₁ x₂ cell label z long two e₁ e₂ e =
     let lb : length b ≡ 26 = length-append a (decimal 20 z) ∙ ap₂ ◌+◌ la (decimal-length 20 z) in
     let lc : length (b ++ (10 ∷ [])) ≡ 27 = length-append b (10 ∷ []) ∙ omega arith in
     let kept : length l₁ ≡ length l = ap length first ∙ put-length l 0 a (omega arith) in
+    let wide : length (take 20 (drop 6 l₁)) ≡ 20 = simp (length-take, length-drop) (omega arith) in
+    let l₂ = put_mid 6 20 l₁ x₃ in
     let p₂ : l₂ ≡ put l 0 b =
-    e ∙ put_within_lem l₁ 6 20 _ (decimal-length 20 z) (omega arith) ∙ grow l l₁ 0 6 6 a _ la refl (omega arith) first in
+    mid_written l₁ x₃ _ 6 20 20 (decimal-length 20 z) refl (e ∙ ap (λ (n : ℕ). decimal n z) wide)
+    ∙ grow l l₁ 0 6 6 a _ la refl (omega arith) first in
     store l l₂ 0 26 26 10 b lb refl (omega arith) p₂ ∙ put_all l (b ++ (10 ∷ [])) (lc ∙ sym long)
 
 -- A line with the label of its place.

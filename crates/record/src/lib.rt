@@ -24,6 +24,9 @@ impl Record {
 
     pub const CELL_BYTES: usize = Record::LINES * Record::LINE_BYTES;
 
+    // Bytes of the longest record.
+    pub const BYTES_MOST: usize = River::CELLS_MOST * Record::CELL_BYTES;
+
     // Where the value of a line begins, its columns, and where the line feed stands.
     pub const VALUE_START: usize = 6;
 

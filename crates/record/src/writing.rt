@@ -7,7 +7,7 @@ ghost use Rattle.record.specs.Inner.Stages.{Labels, labelled, cells_put};
 use crate::Record;
 use river::{AMOUNTS, CARRIES};
 use stoichiometry::{PROCESSES, SUBSTANCES};
-use text::{two_columns, write_decimal};
+use text::{two_columns, write_value};
 
 // The labels of the lines of a cell: their places, from 1, in two columns each. They are the same in every cell.
 type Labels = [[u8; 2]; Record::LINES];
@@ -31,7 +31,7 @@ fn write_line(line: &mut [u8], cell: u32, label: [u8; 2], value: i64)
     line[2] = b' ';
     line[3..5].copy_from_slice(&label);
     line[5] = b' ';
-    write_decimal(line, Record::VALUE_START, Record::VALUE_COLUMNS, value);
+    write_value(&mut line[Record::VALUE_START..Record::LINE_FEED], value);
     line[Record::LINE_FEED] = b'\n';
 }
 
@@ -66,7 +66,8 @@ fn write_cell(
     }
 }
 
-// The lines of the first n cells.
+// The lines of the first n cells. The bound of n stays a clause: a loop over the cells of the amounts by `zip` would end
+// at the shorter of both, and that it makes n turns says the same.
 pub(crate) fn write_cells(
     out: &mut [u8],
     n: usize,

@@ -7,24 +7,26 @@ use mathlib.Core.List.{List, [], ◌∷◌, ◌++◌, append_assoc}
 use mathlib.Core.Path.{◌≡◌, refl, sym, ap, ap₂, ◌∙◌}
 use native.Mathlib.Omega.{arith}
 use borrow.Author.Tests.{eqb-true, eq-eqb}
-use lib.Dec.{eqb}
-use lib.IntN.{ℤ, pos, nat_abs}
+use lib.Dec.{eqb, ltb}
+use lib.IntN.{ℤ, pos, neg_ℤ, nat_abs}
 use lib.ListN.{length, get_or, length-append, length-take, length-drop}
 use lib.Seq.{take_at, take_all, drop_at, take-add, take-suc, get_or_at}
 use lib.Signed.{le_z}
-use Rattle.numeric.specs.Table.{tab}
 use Rattle.numeric.proofs.CheckLaws.{and_left, and_right}
+use Rattle.numeric.proofs.Machine.{kept}
 use Rattle.std.specs.Prelude.{Option, Some, None, is_some, unwrap_or, option_and_then}
+use Rattle.text.proofs.BlockLaws.{part-tab}
+use Rattle.numeric.specs.Table.{tab}
 use Rattle.text.specs.Blocks.{part}
 use Rattle.text.specs.Decimals.{columns, plain, decimal}
 use Rattle.text_reading.specs.Reading.{parse}
-use Rattle.text.proofs.BlockLaws.{part-tab}
 use Rattle.text.proofs.DecimalLaws.{decimal-length}
 use Rattle.text_reading.proofs.ReadingLaws.{Answers, refused, read, parse-decimal, parse_only}
 use Rattle.record.specs.Lines.{line_bytes, front, line}
-use Rattle.record_reading.specs.Reading.{same_bytes, line_value}
+use Rattle.record_reading.specs.Reading.{same_bytes, line_value, lowest_on, highest_on}
 use Rattle.record.proofs.LineLaws.{front_length}
-use Rattle.stoichiometry.specs.Substances.{most_net}
+use Rattle.stoichiometry.specs.Substances.{substances, most_net}
+use Rattle.river.specs.Rivers.{most_carry}
 
 -- A text is the same as itself.
 pub same_refl : (xs : List ℕ) → same_bytes xs xs ≡ true
@@ -92,7 +94,7 @@ value_line l cell k lowest highest = go (parse lowest highest (part 6 20 l)) (pa
         at false same e = absurd (true≢false (sym e))
 
 -- What stands before a value of a text, byte by byte: the columns of the cell, a blank, those of the line, a blank.
-pub front_read : (l : List ℕ) (cell k : ℕ) → 6 ≤ length l
+front_read : (l : List ℕ) (cell k : ℕ) → 6 ≤ length l
     → same_bytes (part 0 6 l) (front cell k)
     ≡ (eqb (get_or l 0 0) (get_or (plain 2 32 cell) 0 0)
     && (eqb (get_or l 1 0) (get_or (plain 2 32 cell) 1 0)
@@ -101,6 +103,40 @@ pub front_read : (l : List ℕ) (cell k : ℕ) → 6 ≤ length l
     && (eqb (get_or l 4 0) (get_or (plain 2 32 k) 1 0) && eqb (get_or l 5 0) 32)))))
 unfolding same_bytes tab front plain columns
 front_read l cell k h = rw (part-tab l 0 6 h) (rw and-true)
+
+-- Six tests one after the other.
+and_six : (a b c d e f : Bool) → (a && b && c && d && e && f) ≡ (a && (b && (c && (d && (e && f)))))
+and_six false b c d e f = refl
+and_six true false c d e f = refl
+and_six true true false d e f = refl
+and_six true true true false e f = refl
+and_six true true true true e f = refl
+
+-- The first six bytes are compared with the columns of the cell and of the line.
+pub front_compared : (l a b : List ℕ) (cell k : ℕ) → 6 ≤ length l → a ≡ plain 2 32 cell → b ≡ plain 2 32 k
+    → (eqb (get_or l 0 0) (get_or a 0 0)
+    && eqb (get_or l 1 0) (get_or a 1 0)
+    && eqb (get_or l 2 0) 32
+    && eqb (get_or l 3 0) (get_or b 0 0)
+    && eqb (get_or l 4 0) (get_or b 1 0)
+    && eqb (get_or l 5 0) 32)
+    ≡ same_bytes (part 0 6 l) (front cell k)
+front_compared l a b cell k h ea eb =
+    and_six (eqb (get_or l 0 0) (get_or a 0 0)) (eqb (get_or l 1 0) (get_or a 1 0)) (eqb (get_or l 2 0) 32)
+    (eqb (get_or l 3 0) (get_or b 0 0)) (eqb (get_or l 4 0) (get_or b 1 0)) (eqb (get_or l 5 0) 32)
+    ∙ rw (ea, eb) (sym (front_read l cell k h))
+
+-- The limits of a line's value as the machine keeps them.
+pub limits_kept : (k : ℕ) → (kept (lowest_on k) ≡ lowest_on k) × (kept (highest_on k) ≡ highest_on k)
+unfolding lowest_on highest_on
+limits_kept k = go (ltb k substances)
+  where
+    go : (b : Bool)
+        → let low = cond b (neg_ℤ (pos most_net)) (pos 0) in
+        let high = cond b (pos most_net) (pos most_carry) in
+        (kept low ≡ low) × (kept high ≡ high)
+    go true = (refl, refl)
+    go false = (refl, refl)
 
 -- A text of a line's bytes.
 module _ (l : List ℕ) (long : length l ≡ line_bytes) where

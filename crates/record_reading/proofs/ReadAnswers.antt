@@ -1,13 +1,13 @@
 -- The answers of reading, by the tests in their order: which texts are records, and the number and the lines of a cell.
 -- No assumptions.
-use mathlib.Core.Path.{◌≡◌, refl, sym, ◌∙◌}
+use mathlib.Core.Path.{◌≡◌, refl, sym, ap, ◌∙◌}
 use mathlib.Core.Bool.{Bool, true, false, not, ◌&&◌}
 use mathlib.Core.List.{List, []}
 use Prim.Native.Nat.{ℕ, ◌+◌, ◌-◌, ◌*◌, ◌≤◌}
 use native.Mathlib.Omega.{arith}
 use borrow.Author.Tests.{ne_eqb, eqb-true, not-true}
 use lib.Dec.{eqb}
-use lib.ListN.{length}
+use lib.ListN.{length, take, drop}
 use Rattle.std.specs.Prelude.{Ok, Err}
 use Rattle.stoichiometry.specs.declared.refusals.Refusal.{Refusal}
 use Rattle.stoichiometry.specs.declared.refusals.Refusal.TheVariants.{Text}
@@ -94,16 +94,25 @@ module _ (t : List ℕ) where
     cell_exists_lem e within = rw (e, within) refl
 
     -- The lines, and where they stand.
-    pub lines-accepted : cell_number t cell ≡ 0 → cell_lines t cell ≡ part ((cell - 1) * cell_bytes) cell_bytes t
+    pub lines_accepted : cell_number t cell ≡ 0 → cell_lines t cell ≡ part ((cell - 1) * cell_bytes) cell_bytes t
     unfolding cell_lines
-    lines-accepted e = rw e refl
+    lines_accepted e = rw e refl
+
+    -- As the bytes from a start to an end.
+    pub lines_between : cell_number t cell ≡ 0
+        → take ((cell - 1) * cell_bytes + cell_bytes - (cell - 1) * cell_bytes) (drop ((cell - 1) * cell_bytes) t)
+        ≡ cell_lines t cell
+    lines_between e =
+        let start = (cell - 1) * cell_bytes in
+        let width : start + cell_bytes - start ≡ cell_bytes = omega arith in
+        ap (λ (n : ℕ). take n (drop start t)) width ∙ sym (lines_accepted e)
 
     pub lines_none : (cell_number t cell ≡ 0 → ⊥) → cell_lines t cell ≡ []
     unfolding cell_lines
     lines_none h = rw (ne_eqb (cell_number t cell) 0 h) refl
 
-    pub cell-within : cell_number t cell ≡ 0 → (1 ≤ cell) × ((cell - 1) * cell_bytes + cell_bytes ≤ length t)
-    cell-within z = go (is_record t) (in_range 1 (cells_in t) cell) refl refl
+    pub cell_within : cell_number t cell ≡ 0 → (1 ≤ cell) × ((cell - 1) * cell_bytes + cell_bytes ≤ length t)
+    cell_within z = go (is_record t) (in_range 1 (cells_in t) cell) refl refl
       where
         go : (a b : Bool) → is_record t ≡ a → in_range 1 (cells_in t) cell ≡ b
             → (1 ≤ cell) × ((cell - 1) * cell_bytes + cell_bytes ≤ length t)

@@ -58,13 +58,12 @@ module _ (t : List ℕ) (c k : ℕ) where
           abs_from (number_at t c k) most_net known.0 known.1
       at (no g) = let small = (carry_range (omega arith) e).1 in omega arith
 
-  -- What the loop reads of its line, with the limits as the machine keeps them.
-  pub value_found : (low high : ℤ) (width : ℕ) (r : Option ℤ) → kept low ≡ lowest_on k → kept high ≡ highest_on k
-      → width ≡ line_bytes
+  -- What the loop reads of its line.
+  pub value_found : (width : ℕ) (r : Option ℤ) → width ≡ line_bytes
       → r
-      ≡ line_value (take width (drop (c * cell_bytes + k * line_bytes) t)) (c + 1) (k + 1) (kept low) (kept high)
+      ≡ line_value (take width (drop (c * cell_bytes + k * line_bytes) t)) (c + 1) (k + 1) (lowest_on k) (highest_on k)
       → r ≡ value_at t c k
-  value_found low high width r el eh ew e = rw (el, eh, ew) at e ∙ value_on
+  value_found width r ew e = rw ew at e ∙ value_on
 
   -- There is a value on the line: it is the line's number, and the machine keeps it.
   pub value_some : (z : ℤ) → value_at t c k ≡ Some z → is_some (value_at t c k) ≡ true

@@ -34,7 +34,7 @@ use Rattle.record.proofs.LineLaws.{value_amount, value_carry, record_bytes}
 use Rattle.record_reading.proofs.LineReading.{line_value_lem, value_line}
 use Rattle.record_reading.proofs.TextLaws.{text-line, text-cell, text_of_lines}
 use Rattle.record_reading.proofs.ReadAnswers.{answer-accepted, read-record, record-parts, size_known}
-use Rattle.record_reading.proofs.ReadAnswers.{cell_exists_lem, lines-accepted}
+use Rattle.record_reading.proofs.ReadAnswers.{cell_exists_lem, lines_accepted}
 
 -- A value that is within the limits of line k, and that 20 columns hold.
 record Allowed (k : ℕ) (z : ℤ) : Type 0 where
@@ -128,7 +128,7 @@ module _ (r : River) (right : river_wrong r ≡ false) (amounts : length r.amoun
   lines_written cell low high =
       let there : in_range 1 (cells_in (record_of r)) cell ≡ true =
       rw (cells_back r right, le-leb 1 cell low, le-leb cell r.cells high) refl in
-      lines-accepted (record_of r) cell (cell_exists_lem (record_of r) cell record-accepted there)
+      lines_accepted (record_of r) cell (cell_exists_lem (record_of r) cell record-accepted there)
       ∙ text-cell r.cells lines (value_of r.amounts r.carries) (cell - 1) (omega arith)
 
 -- A value from the lowest carry on is not below 0.

@@ -52,6 +52,7 @@ pub fn number_of_cell(text: &[u8], cell: u32) -> u32
 }
 
 // The lines of one cell, as that part of the lent text; empty where `number_of_cell` gives a number.
+#[tactic(auto, using(crate::proofs::ReadAnswers::cell_within, crate::proofs::ReadAnswers::lines_between, crate::proofs::ReadAnswers::lines_none))]
 pub fn lines_of_cell(text: &[u8], cell: u32) -> &[u8]
     ensures answer { result.now ≡ cell_lines text.now cell }
 {

@@ -4,44 +4,48 @@ ghost use Rattle.stoichiometry.specs.Rows.{processes};
 ghost use Rattle.stoichiometry.specs.Substances.{substances};
 ghost use Rattle.river.specs.Rivers.{cells_fit, zero_river, most_cells};
 ghost use Rattle.text.specs.Blocks.{part};
-ghost use Rattle.record.specs.Lines.{front, line_bytes, cell_bytes};
+ghost use Rattle.record.specs.Lines.{front, lines, line_bytes, cell_bytes};
 ghost use Rattle.record_reading.specs.Reading.{same_bytes, line_value, lowest_on, highest_on};
 ghost use Rattle.record_reading.specs.Reading.{cell_right, lines_right, amounts_in, carries_in};
 ghost use Rattle.record_reading.specs.Inner.Stages.{amounts_stored, carries_stored};
 
-use numeric::both;
 use record::Record;
 use river::{AMOUNTS, CARRIES, River};
 use stoichiometry::{PROCESSES, SUBSTANCES};
 use text::two_columns;
 use text_reading::read_decimal;
 
-// What stands before the value of the line is its cell and its place.
+// What stands before the value of the line is its cell and its place. As tuples: slices and arrays are compared by a call
+// of the library, and a record is then read in a seventh more.
 fn front_right(line: &[u8], cell: u32, place: u32) -> bool
     requires { 6 ≤ length line.now }
     ensures { result ≡ same_bytes (part 0 6 line.now) (front cell place) }
 {
-    let cell_columns = two_columns(cell);
-    let place_columns = two_columns(place);
-    let place_right = both(
-        line[3] == place_columns[0],
-        both(line[4] == place_columns[1], line[5] == b' '),
-    );
-    both(
-        line[0] == cell_columns[0],
-        both(
-            line[1] == cell_columns[1],
-            both(line[2] == b' ', place_right),
-        ),
-    )
+    let [c0, c1] = two_columns(cell);
+    let [p0, p1] = two_columns(place);
+    (line[0], line[1], line[2], line[3], line[4], line[5]) == (c0, c1, b' ', p0, p1, b' ')
 }
 
-// The value of the line, if there is one from `lowest` to `highest`.
-fn line_value(line: &[u8], cell: u32, place: u32, lowest: i64, highest: i64) -> Option<i64>
-    requires { length line.now ≡ line_bytes }
-    ensures { result ≡ line_value line.now cell place lowest highest }
+// The limits of the value on line k, counted from 0: any amount, or a carry.
+#[tactic(auto, unfolding(crate::specs::Reading::lowest_on, crate::specs::Reading::highest_on))]
+fn limits_on(k: usize) -> (i64, i64)
+    ensures lowest { result.0 ≡ lowest_on k }
+    ensures highest { result.1 ≡ highest_on k }
 {
-    if line[Record::LINE_FEED] == b'\n' && front_right(line, cell, place) {
+    if k < SUBSTANCES {
+        (-River::NET_MOST, River::NET_MOST)
+    } else {
+        (0, i64::from(River::CARRY_MOST))
+    }
+}
+
+// The value of a cell's line k, from 0, if the line has one within its limits.
+fn line_value(line: &[u8], cell: u32, k: usize) -> Option<i64>
+    requires { (length line.now ≡ line_bytes) × (k < lines) }
+    ensures { result ≡ line_value line.now cell (k + 1) (lowest_on k) (highest_on k) }
+{
+    if line[Record::LINE_FEED] == b'\n' && front_right(line, cell, (k + 1) as u32) {
+        let (lowest, highest) = limits_on(k);
         read_decimal(
             &line[Record::VALUE_START..Record::LINE_FEED],
             lowest,
@@ -52,27 +56,9 @@ fn line_value(line: &[u8], cell: u32, place: u32, lowest: i64, highest: i64) -> 
     }
 }
 
-// The limits of the value on line k, counted from 0: any amount, or a carry.
-#[tactic(auto, unfolding(crate::specs::Reading::lowest_on))]
-fn lowest_on(k: usize) -> i64
-    ensures { result ≡ lowest_on k }
-{
-    if k < SUBSTANCES { -River::NET_MOST } else { 0 }
-}
-
-#[tactic(auto, unfolding(crate::specs::Reading::highest_on))]
-fn highest_on(k: usize) -> i64
-    ensures { result ≡ highest_on k }
-{
-    if k < SUBSTANCES {
-        River::NET_MOST
-    } else {
-        River::CARRY_MOST as i64
-    }
-}
-
 // The amounts and then the carries of cell c, counted from 0, if each of its lines has its value. One loop over all
-// lines, so that a line is read from one place only and the compiler sets the reading of it into the loop.
+// lines, so that a line is read from one place only and the compiler sets the reading of it into the loop. The cell is
+// told by its number: by chunks it would be three, of the text, the amounts and the carries, zipped and counted.
 fn read_cell(
     text: &[u8],
     c: usize,
@@ -89,7 +75,7 @@ fn read_cell(
     for k in 0..Record::LINES {
         let at = start + k * Record::LINE_BYTES;
         let line = &text[at..at + Record::LINE_BYTES];
-        let value = line_value(line, cell, (k + 1) as u32, lowest_on(k), highest_on(k))?;
+        let value = line_value(line, cell, k)?;
         if k < SUBSTANCES {
             amounts[c * SUBSTANCES + k] = value;
         } else {
@@ -120,12 +106,10 @@ pub(crate) fn read_cells(
 }
 
 // A text of this many bytes is of 1 to 8 cells.
+#[tactic(auto, unfolding(river::specs::Rivers::cells_fit))]
 pub(crate) fn size_fits(bytes: usize) -> bool
     ensures { result ≡ (cells_fit (bytes / cell_bytes) && eqb (bytes / cell_bytes * cell_bytes) bytes) }
 {
     let n = bytes / Record::CELL_BYTES;
-    both(
-        both(1 <= n, n <= River::CELLS_MOST),
-        n * Record::CELL_BYTES == bytes,
-    )
+    (1..=River::CELLS_MOST).contains(&n) && n * Record::CELL_BYTES == bytes
 }

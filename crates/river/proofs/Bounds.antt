@@ -4,39 +4,46 @@
 use Prim.Native.Nat.{ℕ, ◌<◌, ◌≤◌}
 use mathlib.Core.Bool.{Bool, true, false, ◌&&◌, ◌||◌, cond}
 use mathlib.Core.List.{map}
-use mathlib.Core.Path.{◌≡◌, refl, sym, ap₂, ◌∙◌}
+use mathlib.Core.Path.{◌≡◌, refl, ap₂, ◌∙◌}
 use native.Mathlib.Omega.{arith}
 use borrow.Author.Tests.{leb-true}
-use lib.Dec.{leb, eqb}
+use lib.Dec.{leb}
 use lib.IntN.{ℤ, pos, neg_ℤ, nat_abs}
 use lib.ListN.{get_or-eq_default}
 use lib.Signed.{le_z, ◌≤ℤ◌}
-use mir.Syntax.{w64}
-use mir.Val.{SFits, of_z}
 use Rattle.numeric.specs.Check.{every}
 use Rattle.numeric.specs.Table.{tab}
 use Rattle.numeric.proofs.Bounds.{abs_between}
 use Rattle.numeric.proofs.CheckLaws.{and_left, and_right, every_at}
-use Rattle.numeric.proofs.Comparison.{le_z_true, le_le_z, zero_bits, zero_alone}
+use Rattle.numeric.proofs.Comparison.{le_z_true, le_le_z}
 use Rattle.numeric.proofs.TableLaws.{get_or-tab}
 use Rattle.stoichiometry.specs.Substances.{substances, order, most_organic, most_grains, most_net}
 use Rattle.river.specs.Inner.Runs.{organic_at, net_at}
 use Rattle.river.specs.Rivers.{lowest, highest, lowest_at, highest_at, amount_fits}
 
 -- The bounds by kind.
-abbrev lowest_of : Bool → ℤ
-lowest_of net = cond net (neg_ℤ (pos most_net)) (pos 0)
+abbrev lowest_of : Bool → Bool → ℤ
+lowest_of organic net = cond organic (pos 0) (cond net (neg_ℤ (pos most_net)) (pos 0))
 
 abbrev highest_of : Bool → Bool → ℤ
 highest_of organic net = cond organic (pos most_organic) (cond net (pos most_net) (pos most_grains))
 
-pub lowest_kind : (s : ℕ) → s < substances → lowest_at s ≡ lowest_of (net_at s)
+pub lowest_kind : (s : ℕ) → s < substances → lowest_at s ≡ lowest_of (organic_at s) (net_at s)
 unfolding lowest_at tab
-lowest_kind s h = get_or-tab substances (λ k. lowest_of (net_at k)) s (pos 0) h
+lowest_kind s h = get_or-tab substances (λ k. lowest_of (organic_at k) (net_at k)) s (pos 0) h
 
 pub highest_kind : (s : ℕ) → s < substances → highest_at s ≡ highest_of (organic_at s) (net_at s)
 unfolding highest_at tab
 highest_kind s h = get_or-tab substances (λ k. highest_of (organic_at k) (net_at k)) s (pos 0) h
+
+-- From place 18 on both bounds are 0.
+pub lowest_none : (s : ℕ) → substances ≤ s → lowest_at s ≡ pos 0
+unfolding lowest_at
+lowest_none s h = get_or-eq_default (map lowest order) (pos 0) {n = s} h
+
+pub highest_none : (s : ℕ) → substances ≤ s → highest_at s ≡ pos 0
+unfolding highest_at
+highest_none s h = get_or-eq_default (map highest order) (pos 0) {n = s} h
 
 pub zero_fits : (s : ℕ) → s < substances → amount_fits s (pos 0) ≡ true
 unfolding amount_fits lowest_at highest_at every
@@ -76,20 +83,20 @@ module _ (s : ℕ) (x : ℤ) (h : s < substances) where
   unfolding highest_at every
   fits_bound e = omega (arith, fits_size e, highest_le most_net (λ k. false) refl refl)
 
+  -- Of a substance but H+ and H2O the least is 0.
+  lowest_zero : net_at s ≡ false → lowest_at s ≡ pos 0
+  lowest_zero n = lowest_kind s h ∙ by_kind (organic_at s) (net_at s) n
+    where
+      by_kind : (organic net : Bool) → net ≡ false → lowest_of organic net ≡ pos 0
+      by_kind true net e = refl
+      by_kind false net e = rw e
+
   -- Of a substance but H+ and H2O: from 0 to 10^16.
   pub fits-level : net_at s ≡ false → amount_fits s x ≡ true → (pos 0 ≤ℤ x) × (nat_abs x ≤ most_grains)
   unfolding highest_at every
   fits-level n e =
-      (rw (lowest_kind s h, n) at (fits-lowest s x e), omega (arith, fits_size e, highest_le most_grains net_at refl n))
+      (rw (lowest_zero n) at (fits-lowest s x e), omega (arith, fits_size e, highest_le most_grains net_at refl n))
 
   -- Of an organic: at most 10^9.
   pub fits-organic : organic_at s ≡ true → amount_fits s x ≡ true → nat_abs x ≤ most_organic
   fits-organic o e = rw (highest_kind s h, o) at (fits_size e)
-
--- From place 18 on both bounds are 0, so that the machine's test for 0 is that of the bounds.
-pub none_tested : (s : ℕ) (z : ℤ) → SFits w64 z → substances ≤ s → eqb (of_z w64 z) 0 ≡ amount_fits s z
-unfolding amount_fits lowest_at highest_at
-none_tested s z f h =
-    let low = get_or-eq_default (map lowest order) (pos 0) {n = s} h in
-    let high = get_or-eq_default (map highest order) (pos 0) {n = s} h in
-    zero_bits z f ∙ zero_alone z ∙ sym (ap₂ (λ (a b : ℤ). le_z a z && le_z z b) low high)

@@ -1,23 +1,30 @@
 -- Check 4: `amounts_fit` and `carries_fit` by the parts that the code tests, and as facts of each amount and carry, both
 -- ways; then what is known of a river of which check 4 does not hold, and when it does not. No assumptions.
-use Prim.Native.Nat.{ℕ, ◌<◌, ◌≤◌, ◌+◌, ◌-◌, ◌*◌, ◌%◌}
-use mathlib.Core.Bool.{not, Bool, true, false, ◌&&◌}
-use mathlib.Core.List.{List}
-use mathlib.Core.Path.{◌≡◌, refl, sym, ap, ◌∙◌}
+use Prim.Native.Nat.{ℕ, zero, suc, min, ◌<◌, ◌≤◌, ◌+◌, ◌-◌, ◌*◌, ◌/◌, ◌%◌, zero-le}
+use mathlib.Core.Bool.{not, Bool, true, false, ◌&&◌, cond, true≢false}
+use mathlib.Core.List.{List, []}
+use native.Mathlib.Nat.{zero-add, zero-mul, suc-mul}
+use Rattle.std.proofs.lemmas.List.{ext_get_or}
+use Rattle.std.specs.List.{AllWithin, HoldsAt, EachIndex}
+use Rattle.std.specs.Bool.{Decides, MatchBool}
+use Rattle.std.specs.Simd.{first_chunks}
+use Rattle.numeric.proofs.Filling.{replicate_at}
+use mathlib.Core.Path.{◌≡◌, refl, sym, ap, ap₂, ◌∙◌}
 use native.Mathlib.Decide.{dec_lt}
 use native.Mathlib.Omega.{arith}
-use borrow.Author.Tests.{leb-true, eqb-true, not-false, le-leb, eq-eqb}
-use lib.Arith.{digits_mod}
-use lib.Dec.{leb, eqb, lit<, lit≤}
+use borrow.Author.Tests.{leb-true, eqb-true, not-false, le-leb, eq-eqb, ltb-true, ltb-false, lt-ltb, le-ltb}
+use lib.Arith.{digits_div, digits_mod}
+use lib.Dec.{ltb, leb, eqb, lit<, lit≤}
 use lib.IntN.{ℤ, pos, nat_abs}
-use lib.ListN.{get_or}
+use lib.ListN.{length, get_or, take, drop, replicate, length-take, length-drop}
+use lib.Seq.{get_or-take, get_or-drop}
 use mir.Facts.{to_z-of_z}
 use mir.Syntax.{w64}
 use mir.Val.{SFits}
 use Rattle.numeric.specs.Check.{every}
 use Rattle.numeric.proofs.Bounds.{abs_zero, fits_abs}
 use Rattle.numeric.proofs.CheckLaws.{and_left, and_right, leb-within, every_at, every_all, every_eq, every-rows}
-use Rattle.numeric.proofs.CheckLaws.{row_in, every_split, split_at, split_all}
+use Rattle.numeric.proofs.CheckLaws.{split_at, split_all}
 use Rattle.numeric.proofs.Machine.{kept}
 use Rattle.stoichiometry.specs.Substances.{substances, most_net}
 use Rattle.stoichiometry.specs.Totals.{amount_at}
@@ -25,7 +32,7 @@ use Rattle.stoichiometry.specs.Rows.{processes}
 use Rattle.river.specs.declared.River.{River}
 use Rattle.river.specs.Rivers.{most_cells, most_carry, amount_fits, carry_at, amounts_fit, carries_fit}
 use Rattle.river.specs.Rivers.{cells_fit, river_fits, river_wrong, cell_exists, substance_exists}
-use Rattle.river.specs.Inner.Parts.{first_cells_fit, no_amount_from, first_carries_fit, no_carry_from}
+use Rattle.river.specs.Inner.Parts.{cell_fits, cell_empty}
 use Rattle.river.proofs.Bounds.{fits_bound}
 
 -- Amount k of a list whose first n cells fit: in its bounds, and 0 beyond the last cell; and carry k.
@@ -48,6 +55,47 @@ every_decided false n p passed all = by_test (every n p) refl
     by_test true e = all (λ k h. every_at n k p e h)
     by_test false e = refl
 
+-- A cell is zeros, where a list of its length tells by being one of zeros.
+pub zeros_decided : (cell : List ℤ) (b : Bool) → length cell ≡ substances
+    → Decides b (cell ≡ replicate substances (pos 0)) → b ≡ cell_empty cell
+zeros_decided cell b long same =
+    every_decided b substances _
+    (λ e s l. rw (same.0 e, replicate_at substances s (pos 0)) refl)
+    (λ e.
+    same.1 (ext_get_or (pos 0) cell (replicate substances (pos 0)) long
+    (λ i l. abs_zero _ (eqb-true _ 0 (e i (rw long at l))) ∙ sym (replicate_at substances i (pos 0)))))
+
+-- An answer that says whether every cell of a list passes a test; so does that of `all`.
+abbrev pub Says : (List ℤ → Bool) → List (List ℤ) → Bool → Type 0
+Says p cells b =
+    (b ≡ true → (k : ℕ) → k < length cells → p (get_or cells k []) ≡ true)
+    × (((k : ℕ) → k < length cells → p (get_or cells k []) ≡ true) → b ≡ true)
+
+pub all_says : (p : List ℤ → Bool) (cells : List (List ℤ)) (b : Bool)
+    → MatchBool b (AllWithin (λ x. p x ≡ true) cells 0 (length cells))
+    ((k : ℕ) × (k < length cells) × HoldsAt (λ x. p x ≡ false) cells k)
+    → Says p cells b
+all_says p cells true told = (λ e k l. told k [] zero-le l, λ all. refl)
+all_says p cells false (k, l, fails) =
+    (λ e. absurd (true≢false (sym e)), λ all. absurd (true≢false (sym (all k l) ∙ fails [])))
+
+-- Cell c of all amounts.
+abbrev pub cell_of : List ℤ → ℕ → List ℤ
+cell_of amounts c = get_or (first_chunks substances most_cells amounts) c []
+
+-- A chunk is what stands at its place.
+chunk_at : (w n : ℕ) (xs : List ℤ) (c s : ℕ) → c < n → s < w
+    → get_or (get_or (first_chunks w n xs) c []) s (pos 0) ≡ get_or xs (c * w + s) (pos 0)
+chunk_at w zero xs c s h l = absurd (omega arith)
+chunk_at w (suc n) xs zero s h l = rw (zero-mul, zero-add) (get_or-take w xs s (pos 0) l)
+chunk_at w (suc n) xs (suc c) s h l =
+    let place : w + (c * w + s) ≡ suc c * w + s = rw (suc-mul) (omega arith) in
+    chunk_at w n (drop w xs) c s (omega arith) l ∙ get_or-drop w xs (c * w + s) (pos 0) ∙ ap (λ k. get_or xs k (pos 0)) place
+
+every_either : (b : Bool) (m : ℕ) (p q : ℕ → Bool) → every m (λ s. cond b (p s) (q s)) ≡ cond b (every m p) (every m q)
+every_either true m p q = refl
+every_either false m p q = refl
+
 -- Amounts: the definition's tests of amount k, in a cell and beyond the last.
 module _ (n : ℕ) (amounts : List ℤ) where
   abbrev inside : ℕ → Bool
@@ -56,14 +104,76 @@ module _ (n : ℕ) (amounts : List ℤ) where
   abbrev empty : ℕ → Bool
   empty k = eqb (nat_abs (get_or amounts k (pos 0))) 0
 
-  pub amounts-parts : n ≤ most_cells
-      → amounts_fit n amounts ≡ first_cells_fit n amounts && no_amount_from (n * substances) amounts
+  -- Cell c is in its bounds where it is one of the river's, and zeros elsewhere.
+  abbrev pub CellPlaced : ℕ → Type 0
+  CellPlaced c = (c < n → cell_fits (cell_of amounts c) ≡ true) × (n ≤ c → cell_empty (cell_of amounts c) ≡ true)
+
+  abbrev cell_placed : ℕ → Bool
+  cell_placed c = cond (ltb c n) (cell_fits (cell_of amounts c)) (cell_empty (cell_of amounts c))
+
+  amounts-cells : amounts_fit n amounts ≡ every most_cells cell_placed
   unfolding amounts_fit
-  amounts-parts h =
-      every_split substances n most_cells inside empty (lit< tt) h
-      ∙ ap (λ (b : Bool). b && no_amount_from (n * substances) amounts)
-      (every-rows n substances inside
-      ∙ every_eq n _ _ (λ c l. every_eq substances _ _ (λ s i. rw (digits_mod c i))))
+  amounts-cells =
+      every-rows most_cells substances (λ k. cond (ltb (k / substances) n) (inside k) (empty k))
+      ∙ every_eq most_cells _ _ (λ c l.
+      every_eq substances _ _ (λ s i. rw (digits_div c i, digits_mod c i, ← chunk_at substances most_cells amounts c s l i))
+      ∙ every_either (ltb c n) substances (λ s. amount_fits s (get_or (cell_of amounts c) s (pos 0))) _)
+
+  -- An answer that says whether every cell is.
+  amounts_decided : (b : Bool) → (b ≡ true → (c : ℕ) → c < most_cells → CellPlaced c)
+      → (((c : ℕ) → c < most_cells → CellPlaced c) → b ≡ true) → b ≡ amounts_fit n amounts
+  amounts_decided b passed all =
+      every_decided b most_cells cell_placed
+      (λ e c l. by_test (ltb c n) c refl (passed e c l))
+      (λ e. all (λ c l. (λ i. rw (lt-ltb c n i) at (e c l), λ i. rw (le-ltb c n i) at (e c l))))
+      ∙ sym amounts-cells
+    where
+      by_test : (t : Bool) (c : ℕ) → ltb c n ≡ t → CellPlaced c
+          → cond t (cell_fits (cell_of amounts c)) (cell_empty (cell_of amounts c)) ≡ true
+      by_test true c e h = h.0 (ltb-true c n e)
+      by_test false c e h = h.1 (ltb-false c n e)
+
+  -- The same by the answers of two tests: of the first n cells for their bounds, and of the others for zeros.
+  module _ (cells : List (List ℤ)) (are : cells ≡ first_chunks substances most_cells amounts)
+      (long : length cells ≡ most_cells) where
+    front_at : (c : ℕ) → c < n → get_or (take n cells) c [] ≡ cell_of amounts c
+    front_at c h = get_or-take n cells c [] h ∙ ap (λ l. get_or l c []) are
+
+    back_at : (c : ℕ) → n ≤ c → get_or (drop n cells) (c - n) [] ≡ cell_of amounts c
+    back_at c h =
+        let place : n + (c - n) ≡ c = omega arith in
+        get_or-drop n cells (c - n) [] ∙ ap₂ (λ (l : List (List ℤ)) (k : ℕ). get_or l k []) are place
+
+    front_told : (a : Bool) → Says cell_fits (take n cells) a → a ≡ true → (c : ℕ) → c < most_cells → c < n
+        → cell_fits (cell_of amounts c) ≡ true
+    front_told a says e c l h =
+        let inside : c < length (take n cells) = simp length-take (omega arith) in
+        rw (front_at c h) at (says.0 e c inside)
+
+    front_whole : (a : Bool) → Says cell_fits (take n cells) a → ((c : ℕ) → c < most_cells → CellPlaced c) → a ≡ true
+    front_whole a says all =
+        says.1 (λ k l. let inside : k < min n (length cells) = simp length-take at l in
+        rw (front_at k (omega arith)) ((all k (omega arith)).0 (omega arith)))
+
+    pub front_fails : (a : Bool) → Says cell_fits (take n cells) a → a ≡ false → a ≡ amounts_fit n amounts
+    front_fails a says e =
+        amounts_decided a (λ t. absurd (true≢false (sym t ∙ e))) (front_whole a says)
+
+    pub both_tested : (a b : Bool) → Says cell_fits (take n cells) a → Says cell_empty (drop n cells) b → a ≡ true
+        → b ≡ amounts_fit n amounts
+    both_tested a b front back e =
+        amounts_decided b
+        (λ t c l. (
+          front_told a front e c l,
+          λ h.
+              let inside : c - n < length (drop n cells) = simp length-drop (omega arith) in
+              rw (back_at c h) at (back.0 t (c - n) inside),
+        ))
+        (λ all. back.1 (λ k l.
+        let inside : k < length cells - n = simp length-drop at l in
+        let at : get_or (drop n cells) k [] ≡ cell_of amounts (n + k) =
+        get_or-drop n cells k [] ∙ ap (λ l. get_or l (n + k) []) are in
+        rw at ((all (n + k) (omega arith)).1 (omega arith))))
 
   pub amounts_at : amounts_fit n amounts ≡ true → (k : ℕ) → k < most_cells * substances → AmountPlaced n amounts k
   unfolding amounts_fit
@@ -78,13 +188,6 @@ module _ (n : ℕ) (amounts : List ℤ) where
       split_all substances n most_cells inside empty (lit< tt)
       (λ k l. ((h k l).0, λ i. eq-eqb _ 0 (ap nat_abs ((h k l).1 i))))
 
--- A number of cells above 8 is taken for 8.
-pub amounts_beyond : (n : ℕ) (amounts : List ℤ) → most_cells ≤ n → amounts_fit n amounts ≡ amounts_fit most_cells amounts
-unfolding amounts_fit
-amounts_beyond n amounts h =
-    every_eq (most_cells * substances) _ _
-    (λ k l. rw (row_in substances n k (lit< tt) (omega arith), row_in substances most_cells k (lit< tt) l))
-
 -- Carries, the same way.
 module _ (n : ℕ) (carries : List ℕ) where
   abbrev light : ℕ → Bool
@@ -92,11 +195,6 @@ module _ (n : ℕ) (carries : List ℕ) where
 
   abbrev none : ℕ → Bool
   none k = eqb (get_or carries k 0) 0
-
-  pub carries-parts : n ≤ most_cells
-      → carries_fit n carries ≡ first_carries_fit (n * processes) carries && no_carry_from (n * processes) carries
-  unfolding carries_fit
-  carries-parts h = every_split processes n most_cells light none (lit< tt) h
 
   pub carries_at : carries_fit n carries ≡ true → (k : ℕ) → k < most_cells * processes → CarryPlaced n carries k
   unfolding carries_fit
@@ -109,6 +207,45 @@ module _ (n : ℕ) (carries : List ℕ) where
   carries_from h =
       split_all processes n most_cells light none (lit< tt)
       (λ k l. (λ i. le-leb _ most_carry ((h k l).0 i), λ i. eq-eqb _ 0 ((h k l).1 i)))
+
+  -- An answer by the two tests of the carries before and from place `end` on.
+  module _ (end : ℕ) (is_end : end ≡ min (most_cells * processes) (n * processes)) (long : length carries ≡ most_cells * processes) where
+    pub carries_tested : (b : Bool)
+        → (b ≡ true → EachIndex (take end carries) (λ k. get_or (take end carries) k 0 ≤ most_carry))
+        → (b ≡ true → EachIndex (drop end carries) (λ k. get_or (drop end carries) k 0 ≡ 0))
+        → (EachIndex (take end carries) (λ k. get_or (take end carries) k 0 ≤ most_carry)
+        → EachIndex (drop end carries) (λ k. get_or (drop end carries) k 0 ≡ 0) → b ≡ true)
+        → b ≡ carries_fit n carries
+    carries_tested b front back both = by_answer b refl
+      where
+        placed : b ≡ true → (k : ℕ) → k < most_cells * processes → CarryPlaced n carries k
+        placed e k l = (
+          λ h.
+              let inside : k < length (take end carries) = simp length-take (omega arith) in
+              rw (get_or-take end carries k 0 (omega arith)) at (front e k inside),
+          λ h.
+              let inside : k - end < length (drop end carries) = simp length-drop (omega arith) in
+              let place : end + (k - end) ≡ k = omega arith in
+              rw (get_or-drop end carries (k - end) 0, place) at (back e (k - end) inside),
+        )
+
+        all : ((k : ℕ) → k < most_cells * processes → CarryPlaced n carries k) → b ≡ true
+        all h =
+            both
+            (λ k l.
+            let inside : k < min end (length carries) = simp length-take at l in
+            rw (get_or-take end carries k 0 (omega arith)) ((h k (omega arith)).0 (omega arith)))
+            (λ k l.
+            let inside : k < length carries - end = simp length-drop at l in
+            rw (get_or-drop end carries k 0) ((h (end + k) (omega arith)).1 (omega arith)))
+
+        by_answer : (t : Bool) → b ≡ t → b ≡ carries_fit n carries
+        by_answer true e = e ∙ sym (carries_from (placed e))
+        by_answer false e = e ∙ by_test (carries_fit n carries) refl
+          where
+            by_test : (t : Bool) → carries_fit n carries ≡ t → false ≡ t
+            by_test true f = sym e ∙ all (carries_at f)
+            by_test false f = refl
 
 -- When check 4 does not hold.
 pub river_fits_lem : (r : River) → 1 ≤ r.cells → r.cells ≤ most_cells

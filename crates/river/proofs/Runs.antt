@@ -3,13 +3,14 @@
 use Prim.Native.Nat.{ℕ, ◌+◌, ◌-◌, ◌≤◌, ◌<◌, zero-le}
 use mathlib.Core.Bool.{Bool, true, false, true≢false}
 use mathlib.Core.List.{List}
-use mathlib.Core.Path.{◌≡◌, refl, sym, ◌∙◌}
+use mathlib.Core.Path.{◌≡◌, refl, sym, ap, ◌∙◌}
 use native.Mathlib.Omega.{arith}
 use borrow.Author.Tests.{ltb-true, ltb-false}
 use lib.Bits.{bit_or}
 use lib.Dec.{ltb}
 use lib.IntN.{ℤ, pos}
-use lib.ListN.{get_or}
+use lib.ListN.{length, take, drop, get_or, length-take, length-drop}
+use lib.Seq.{get_or-take, get_or-drop}
 use lib.Signed.{◌≤ℤ◌, le_z}
 use mir.Syntax.{w64}
 use mir.Val.{to_z, of_z}
@@ -20,65 +21,70 @@ use Rattle.numeric.proofs.JoinedBits.{or_covers}
 use Rattle.numeric.proofs.Machine.{kept}
 use Rattle.numeric.proofs.RingLaws.{≤ℤ_trans}
 use Rattle.river.specs.Rivers.{lowest_at, highest_at, amount_fits}
-use Rattle.river.specs.Inner.Runs.{RunFits, same_bounds, CoversAmounts}
+use Rattle.river.specs.Inner.Runs.{RunFits, same_bounds, Covers}
 use Rattle.river.proofs.Bounds.{fits-lowest, fits-highest, fits_from}
 
-module _ (amounts : List ℤ) (start first : ℕ) where
-  pub run_none : RunFits amounts start first first
+module _ (cell : List ℤ) (first : ℕ) where
+  pub run_none : RunFits cell first first
   run_none s from before = let no : ⊥ = omega arith in absurd no
 
   -- Two runs side by side.
-  pub run-append : (middle end : ℕ) → RunFits amounts start first middle → RunFits amounts start middle end
-      → RunFits amounts start first end
+  pub run-append : (middle end : ℕ) → RunFits cell first middle → RunFits cell middle end
+      → RunFits cell first end
   run-append middle end left right s from before = by_test (ltb s middle) refl
     where
-      by_test : (t : Bool) → ltb s middle ≡ t → amount_fits s (get_or amounts (start + s) (pos 0)) ≡ true
+      by_test : (t : Bool) → ltb s middle ≡ t → amount_fits s (get_or cell s (pos 0)) ≡ true
       by_test true e = left s from (ltb-true s middle e)
       by_test false e = right s (ltb-false s middle e) before
 
-  pub run_more : (end : ℕ) → RunFits amounts start first end
-      → amount_fits end (get_or amounts (start + end) (pos 0)) ≡ true → RunFits amounts start first (end + 1)
+  pub run_more : (end : ℕ) → RunFits cell first end
+      → amount_fits end (get_or cell end (pos 0)) ≡ true → RunFits cell first (end + 1)
   run_more end all fits =
       run-append end (end + 1) all (λ s from before. let only : s ≡ end = omega arith in rw only fits)
 
   -- An amount that does not fit.
-  pub run_stops : (s end : ℕ) → first ≤ s → s < end → amount_fits s (get_or amounts (start + s) (pos 0)) ≡ false
-      → RunFits amounts start first end → ⊥
+  pub run_stops : (s end : ℕ) → first ≤ s → s < end → amount_fits s (get_or cell s (pos 0)) ≡ false
+      → RunFits cell first end → ⊥
   run_stops s end from before fails all = true≢false (sym (all s from before) ∙ fails)
 
 -- The first n substances of a cell.
-module _ (amounts : List ℤ) (start n : ℕ) where
-  pub run-every : RunFits amounts start 0 n
-      → every n (λ s. amount_fits s (get_or amounts (start + s) (pos 0))) ≡ true
+module _ (cell : List ℤ) (n : ℕ) where
+  pub run-every : RunFits cell 0 n
+      → every n (λ s. amount_fits s (get_or cell s (pos 0))) ≡ true
   run-every all = every_all n _ (λ s before. all s zero-le before)
 
   -- An answer that says whether they fit.
-  pub run_decides : (t : Bool) → (t ≡ true → RunFits amounts start 0 n) → (t ≡ false → RunFits amounts start 0 n → ⊥)
-      → t ≡ every n (λ s. amount_fits s (get_or amounts (start + s) (pos 0)))
+  pub run_decides : (t : Bool) → (t ≡ true → RunFits cell 0 n) → (t ≡ false → RunFits cell 0 n → ⊥)
+      → t ≡ every n (λ s. amount_fits s (get_or cell s (pos 0)))
   run_decides true fit other = sym (run-every (fit refl))
   run_decides false fit other = by_test (every n _) refl
     where
-      by_test : (e : Bool) → every n (λ s. amount_fits s (get_or amounts (start + s) (pos 0))) ≡ e → false ≡ e
+      by_test : (e : Bool) → every n (λ s. amount_fits s (get_or cell s (pos 0))) ≡ e → false ≡ e
       by_test true all = absurd (other refl (λ s from before. every_at n s _ all before))
       by_test false none = refl
 
-module _ (amounts : List ℤ) (start : ℕ) where
-  pub covers_none : (z : ℤ) → CoversAmounts amounts start 0 z
+-- The amounts before place `count` are covered.
+abbrev pub CoversFirst : List ℤ → ℕ → ℤ → Type 0
+CoversFirst amounts count z =
+    pos 0 ≤ℤ z → (i : ℕ) → i < count → (pos 0 ≤ℤ get_or amounts i (pos 0)) × (get_or amounts i (pos 0) ≤ℤ z)
+
+module _ (amounts : List ℤ) where
+  pub covers_none : (z : ℤ) → CoversFirst amounts 0 z
   covers_none z h i before = let no : ⊥ = omega arith in absurd no
 
   -- One amount more is joined to the bits b.
-  pub covers_more : (count b : ℕ) → let x = get_or amounts (start + count) (pos 0) in kept x ≡ x
-      → CoversAmounts amounts start count (to_z w64 b)
-      → CoversAmounts amounts start (count + 1) (to_z w64 (bit_or b (of_z w64 x)))
+  pub covers_more : (count b : ℕ) → let x = get_or amounts count (pos 0) in kept x ≡ x
+      → CoversFirst amounts count (to_z w64 b)
+      → CoversFirst amounts (count + 1) (to_z w64 (bit_or b (of_z w64 x)))
   covers_more count b same all h i before = by_test (ltb i count) refl
     where
       x : ℤ
-      x = get_or amounts (start + count) (pos 0)
+      x = get_or amounts count (pos 0)
 
       Covered : ℤ → Type 0
       Covered y = (pos 0 ≤ℤ y) × (y ≤ℤ to_z w64 (bit_or b (of_z w64 x)))
 
-      by_test : (t : Bool) → ltb i count ≡ t → Covered (get_or amounts (start + i) (pos 0))
+      by_test : (t : Bool) → ltb i count ≡ t → Covered (get_or amounts i (pos 0))
       by_test true e =
           let bits = (or_covers b (of_z w64 x) h).0 in
           let old = all bits.0 i (ltb-true i count e) in
@@ -88,17 +94,20 @@ module _ (amounts : List ℤ) (start : ℕ) where
           rw only (rw same at (or_covers b (of_z w64 x) h).1)
 
 -- One test of joined bits.
-pub run_covered : (amounts : List ℤ) (start first end : ℕ) (z : ℤ) → first < end → same_bounds first end ≡ true
-    → CoversAmounts amounts (start + first) (end - first) z → amount_fits first z ≡ true
-    → RunFits amounts start first end
-run_covered amounts start first end z some same covers fits s from before =
+pub run_covered : (cell : List ℤ) (first end : ℕ) (z : ℤ) → first < end → end ≤ length cell
+    → same_bounds first end ≡ true
+    → Covers (take (end - first) (drop first cell)) z → amount_fits first z ≡ true
+    → RunFits cell first end
+run_covered cell first end z some room same covers fits s from before =
     let i = s - first in
     let is_s : first + i ≡ s = omega arith in
     let from_zero = le_z_true (pos 0) (lowest_at first) (and_left (le_z (pos 0) (lowest_at first)) _ same) in
     let others = and_right (le_z (pos 0) (lowest_at first)) _ same in
     let bounds = rw is_s at (every_at (end - first) i _ others (omega arith)) in
-    let place : start + first + i ≡ start + s = omega arith in
-    let covered = rw place at (covers (≤ℤ_trans from_zero (fits-lowest first z fits)) i (omega arith)) in
+    let inside : i < length (take (end - first) (drop first cell)) = simp (length-take, length-drop) (omega arith) in
+    let at : get_or (take (end - first) (drop first cell)) i (pos 0) ≡ get_or cell s (pos 0) =
+    get_or-take (end - first) (drop first cell) i (pos 0) (omega arith) ∙ get_or-drop first cell i (pos 0) ∙ ap (λ k. get_or cell k (pos 0)) is_s in
+    let covered = rw at at (covers (≤ℤ_trans from_zero (fits-lowest first z fits)) i inside) in
     let lower = le_z_true (lowest_at s) (pos 0) (and_left _ (le_z (highest_at first) (highest_at s)) bounds) in
     let higher = le_z_true (highest_at first) (highest_at s) (and_right (le_z (lowest_at s) (pos 0)) _ bounds) in
-    fits_from s _ (≤ℤ_trans lower covered.0) (≤ℤ_trans (≤ℤ_trans covered.1 (fits-highest first z fits)) higher)
+    fits_from s (get_or cell s (pos 0)) (≤ℤ_trans lower covered.0) (≤ℤ_trans covered.1 (≤ℤ_trans (fits-highest first z fits) higher))

@@ -1,155 +1,124 @@
 // The amounts' part of check 4: those of the river's cells are in their bounds, all others are 0.
-ghost use Rattle.std.specs.Prelude.{◌≡◌, true, false, ◌+◌, ◌*◌, ◌<◌, ◌≤◌};
+ghost use Rattle.std.specs.Prelude.{◌≡◌, true, false, ◌<◌, ◌≤◌, length};
+ghost use Rattle.std.specs.Range.{range_inclusive_start, range_inclusive_end, range_inclusive_exhausted};
 ghost use Rattle.stoichiometry.specs.Substances.{substances};
-ghost use Rattle.river.specs.Rivers.{most_cells, lowest_at, highest_at, amount_fits, amounts_fit};
-ghost use Rattle.river.specs.Inner.Runs.{organic_at, net_at, RunFits, same_bounds, CoversAmounts};
-ghost use Rattle.river.specs.Inner.Parts.{cell_fits, first_cells_fit, no_amount_from};
+ghost use Rattle.river.specs.Rivers.{lowest_at, highest_at, amount_fits, amounts_fit};
+ghost use Rattle.river.specs.Inner.Runs.{organic_at, net_at, RunFits, same_bounds, Covers};
+ghost use Rattle.river.specs.Inner.Parts.{cell_fits, cell_empty};
 
 use crate::{AMOUNTS, River};
-use numeric::both;
+use std::ops::RangeInclusive;
 use stoichiometry::{SUBSTANCES, place};
 
-// The substance at place s is an organic: these stand before NH4 and from XH to XI.
-fn is_organic(s: usize) -> bool
-    ensures { result ≡ organic_at s }
+// The substance at a place is an organic: these stand before NH4 and from XH to XI.
+fn is_organic(place: usize) -> bool
+    ensures { result ≡ organic_at place }
 {
-    s < place::NH4 || (place::XH <= s && s <= place::XI)
+    place < place::NH4 || (place::XH..=place::XI).contains(&place)
 }
 
 // It is H+ or H2O.
-fn is_net_change(s: usize) -> bool
-    ensures { result ≡ net_at s }
+fn is_net_change(place: usize) -> bool
+    ensures { result ≡ net_at place }
 {
-    s == place::H_PLUS || s == place::H2O
+    place == place::H_PLUS || place == place::H2O
 }
 
-// The least of the substance at place s, and its most.
-#[tactic(auto, using(crate::proofs::Bounds::lowest_kind))]
-fn lowest(s: usize) -> i64
-    requires { s < substances }
-    ensures { result ≡ lowest_at s }
+// The least and the most of the substance at a place. From place 18 on, where there is none, only 0 is in bounds.
+#[tactic(auto, using(crate::proofs::Bounds::lowest_none, crate::proofs::Bounds::highest_none, crate::proofs::Bounds::lowest_kind, crate::proofs::Bounds::highest_kind))]
+fn bounds(place: usize) -> RangeInclusive<i64>
+    ensures start { range_inclusive_start result ≡ lowest_at place }
+    ensures end { range_inclusive_end result ≡ highest_at place }
+    ensures exhausted { range_inclusive_exhausted result ≡ false }
 {
-    if is_net_change(s) {
-        -River::NET_MOST
+    if place >= SUBSTANCES {
+        0..=0
+    } else if is_organic(place) {
+        0..=River::ORGANIC_MOST
+    } else if is_net_change(place) {
+        -River::NET_MOST..=River::NET_MOST
     } else {
-        0
+        0..=River::GRAINS_MOST
     }
 }
 
-#[tactic(auto, using(crate::proofs::Bounds::highest_kind))]
-fn highest(s: usize) -> i64
-    requires { s < substances }
-    ensures { result ≡ highest_at s }
-{
-    if is_organic(s) {
-        River::ORGANIC_MOST
-    } else if is_net_change(s) {
-        River::NET_MOST
-    } else {
-        River::GRAINS_MOST
-    }
-}
-
-// An amount x of the substance at place s is in its bounds.
+// An amount of the substance at a place, counted from 0, is in its bounds. From place 18 on, where there is none, only
+// 0 is.
 #[tactic(auto, unfolding(crate::specs::Rivers::amount_fits))]
-pub(crate) fn amount_fits(s: usize, x: i64) -> bool
-    requires { s < substances }
-    ensures { result ≡ amount_fits s x }
+pub fn amount_fits(place: usize, amount: i64) -> bool
+    ensures answer { result ≡ amount_fits place amount }
 {
-    both(lowest(s) <= x, x <= highest(s))
+    bounds(place).contains(&amount)
 }
 
-// The amounts of the substances at places `first` to `end` - 1, of the cell that begins at `start`, are in their
-// bounds, tested one by one.
-fn each_amount_fits(amounts: &[i64; AMOUNTS], start: usize, first: usize, end: usize) -> bool
-    requires { (start + substances ≤ most_cells * substances) × (first ≤ end) × (end ≤ substances) }
-    ensures fit { result ≡ true → RunFits amounts.now start first end }
-    ensures other { result ≡ false → RunFits amounts.now start first end → ⊥ }
+// The amounts of a cell of the substances at places `first` to `end` - 1 are in their bounds, tested one by one.
+fn each_amount_fits(cell: &[i64; SUBSTANCES], first: usize, end: usize) -> bool
+    requires { (first ≤ end) × (end ≤ substances) }
+    ensures fit { result ≡ true → RunFits cell.now first end }
+    ensures other { result ≡ false → RunFits cell.now first end → ⊥ }
 {
     for s in first..end {
-        if !amount_fits(s, amounts[start + s]) {
+        if !amount_fits(s, cell[s]) {
             return false;
         }
     }
     true
 }
 
-// The bits of `count` amounts from `start` on, joined. Where that is not below zero, each of them is from 0 to it.
-fn joined(amounts: &[i64; AMOUNTS], start: usize, count: usize) -> i64
-    requires { start + count ≤ most_cells * substances }
-    ensures { CoversAmounts amounts.now start count result }
+// The bits of amounts, joined. Where that is not below zero, each of them is from 0 to it.
+fn joined(amounts: &[i64]) -> i64
+    ensures { Covers amounts.now result }
 {
     let mut bits = 0;
-    for i in 0..count {
-        bits |= amounts[start + i];
+    for amount in amounts {
+        bits |= *amount;
     }
     bits
 }
 
 // As `each_amount_fits`, by one test, for substances that have the same bounds, from 0 on: true only where each amount
 // fits. Joined bits may be past the most where no amount is, so false tells nothing.
-fn run_fits(amounts: &[i64; AMOUNTS], start: usize, first: usize, end: usize) -> bool
-    requires places { (start + substances ≤ most_cells * substances) × (first < end) × (end ≤ substances) }
+fn run_fits(cell: &[i64; SUBSTANCES], first: usize, end: usize) -> bool
+    requires places { (first < end) × (end ≤ substances) }
     requires same_bounds { same_bounds first end ≡ true }
-    ensures { result ≡ true → RunFits amounts.now start first end }
+    ensures { result ≡ true → RunFits cell.now first end }
 {
-    amount_fits(first, joined(amounts, start + first, end - first))
+    amount_fits(first, joined(&cell[first..end]))
 }
 
-// True only where the amounts of the cell that begins at `start` are in their bounds, by few tests: of SS and SI, of
-// NH4 to HCO3, of H+, of XH to XI, and of XP, H2O and N2. False tells nothing.
+// True only where the amounts of a cell are in their bounds, by few tests: of SS and SI, of NH4 to HCO3, of H+, of XH to
+// XI, and of XP, H2O and N2. False tells nothing.
 #[tactic(auto, unfolding(numeric::specs::Check::every, crate::specs::Rivers::lowest_at, crate::specs::Rivers::highest_at))]
-fn runs_fit(amounts: &[i64; AMOUNTS], start: usize) -> bool
-    requires { start + substances ≤ most_cells * substances }
-    ensures { result ≡ true → RunFits amounts.now start 0 substances }
+fn runs_fit(cell: &[i64; SUBSTANCES]) -> bool
+    ensures { result ≡ true → RunFits cell.now 0 substances }
 {
-    run_fits(amounts, start, place::SS, place::NH4)
-        && run_fits(amounts, start, place::NH4, place::H_PLUS)
-        && each_amount_fits(amounts, start, place::H_PLUS, place::XH)
-        && run_fits(amounts, start, place::XH, place::XP)
-        && each_amount_fits(amounts, start, place::XP, SUBSTANCES)
+    run_fits(cell, place::SS, place::NH4)
+        && run_fits(cell, place::NH4, place::H_PLUS)
+        && each_amount_fits(cell, place::H_PLUS, place::XH)
+        && run_fits(cell, place::XH, place::XP)
+        && each_amount_fits(cell, place::XP, SUBSTANCES)
 }
 
-// The amounts of the cell that begins at `start` are in their bounds. Nearly every cell passes the few tests; where one
-// does not, the amounts are tested one by one.
-fn cell_fits(amounts: &[i64; AMOUNTS], start: usize) -> bool
-    requires { start + substances ≤ most_cells * substances }
-    ensures { result ≡ cell_fits amounts.now start }
+// The amounts of a cell are in their bounds. Nearly every cell passes the few tests; where one does not, the amounts are
+// tested one by one.
+fn cell_fits(cell: &[i64; SUBSTANCES]) -> bool
+    ensures { result ≡ cell_fits cell.now }
 {
-    runs_fit(amounts, start) || each_amount_fits(amounts, start, 0, SUBSTANCES)
+    runs_fit(cell) || each_amount_fits(cell, 0, SUBSTANCES)
 }
 
-// The amounts of the first n cells are in their bounds.
-fn first_cells_fit(n: usize, amounts: &[i64; AMOUNTS]) -> bool
-    requires { n ≤ most_cells }
-    ensures { result ≡ first_cells_fit n amounts.now }
+// The amounts of a cell are zeros.
+fn cell_empty(cell: &[i64; SUBSTANCES]) -> bool
+    ensures { result ≡ cell_empty cell.now }
 {
-    for c in 0..n {
-        if !cell_fits(amounts, c * SUBSTANCES) {
-            return false;
-        }
-    }
-    true
+    *cell == [0; SUBSTANCES]
 }
 
-// The amounts from `start` on are zeros. With `iter().all(..)` the proof did not close: of an item that is not indexed
-// the check does not know that it fits 64 bits.
-fn no_amount_from(start: usize, amounts: &[i64; AMOUNTS]) -> bool
-    requires { start ≤ most_cells * substances }
-    ensures { result ≡ no_amount_from start amounts.now }
+// The amounts of a river's cells are in their bounds, all others are 0. A number of cells above 8 is taken for 8.
+pub fn amounts_fit(cells: u32, amounts: &[i64; AMOUNTS]) -> bool
+    ensures answer { result ≡ amounts_fit cells amounts.now }
 {
-    for i in 0..AMOUNTS - start {
-        if amounts[start + i] != 0 {
-            return false;
-        }
-    }
-    true
-}
-
-// The amounts of the first n cells are in their bounds, all others are 0.
-pub(crate) fn amounts_fit(n: usize, amounts: &[i64; AMOUNTS]) -> bool
-    requires { n ≤ most_cells }
-    ensures { result ≡ amounts_fit n amounts.now }
-{
-    first_cells_fit(n, amounts) && no_amount_from(n * SUBSTANCES, amounts)
+    let n = cells as usize;
+    let (all, _) = amounts.as_chunks::<SUBSTANCES>();
+    all.iter().take(n).all(cell_fits) && all.iter().skip(n).all(cell_empty)
 }

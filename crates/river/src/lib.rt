@@ -2,17 +2,17 @@
 #![tactic(auto)]
 
 ghost use Rattle.std.specs.Prelude.{◌≡◌};
-ghost use Rattle.river.specs.Rivers.{amount_fits, amounts_fit, river_fits, fresh_answer};
+ghost use Rattle.river.specs.Rivers.{river_fits, fresh_answer};
 ghost use Rattle.river.specs.Cells.{byte, letter_by, letter_answer};
 
 use crate::carries::carries_fit;
-use crate::cells::letter;
 use numeric::in_range;
-use stoichiometry::{PROCESSES, Refusal, SUBSTANCES, place};
+use stoichiometry::{Microgram, PROCESSES, Refusal, SUBSTANCES, place};
 
 mod amounts;
 mod carries;
-mod cells;
+
+pub use crate::amounts::{amount_fits, amounts_fit};
 
 // The amounts and the carries of all cells.
 pub const AMOUNTS: usize = River::CELLS_MOST * SUBSTANCES;
@@ -66,10 +66,9 @@ impl River {
     pub fn fits(&self) -> bool
         ensures answer { result ≡ river_fits self.now.cells self.now.amounts self.now.carries }
     {
-        let n = self.cells as usize;
         in_range(1, River::CELLS_MOST as u32, self.cells)
-            && amounts::amounts_fit(n, &self.amounts)
-            && carries_fit(n, &self.carries)
+            && amounts_fit(self.cells, &self.amounts)
+            && carries_fit(self.cells, &self.carries)
     }
 }
 
@@ -95,32 +94,6 @@ impl Letter {
     }
 }
 
-// An amount of the substance at a place, counted from 0, is in its bounds. From place 18 on, where there is none, only
-// 0 is.
-#[tactic(auto, using(crate::proofs::Bounds::none_tested))]
-pub fn amount_fits(place: usize, amount: i64) -> bool
-    ensures answer { result ≡ amount_fits place amount }
-{
-    if place < SUBSTANCES {
-        amounts::amount_fits(place, amount)
-    } else {
-        amount == 0
-    }
-}
-
-// The amounts of a river's cells are in their bounds, all others are 0. A number of cells above 8 is taken for 8.
-#[tactic(auto, using(crate::proofs::Rivers::amounts_beyond))]
-pub fn amounts_fit(cells: u32, amounts: &[i64; AMOUNTS]) -> bool
-    ensures answer { result ≡ amounts_fit cells amounts.now }
-{
-    let n = cells as usize;
-    if n <= River::CELLS_MOST {
-        amounts::amounts_fit(n, amounts)
-    } else {
-        amounts::amounts_fit(River::CELLS_MOST, amounts)
-    }
-}
-
 // The letter by the levels of O2 and NH4, µg, for a caller that has them.
 #[tactic(auto, unfolding(crate::specs::Cells::letter_by))]
 pub fn letter_by(oxygen: u64, ammonium: u64) -> Letter
@@ -137,7 +110,7 @@ pub fn letter_by(oxygen: u64, ammonium: u64) -> Letter
 
 // The letter of a cell, 1 to the number of cells: L where the level of O2 is below 2,000,000 µg, N where that of NH4 is
 // above 1,000,000 µg, else a hyphen. Refuses with 4 and 5.
-#[tactic(auto, unfolding(crate::specs::Cells::letter_answer, crate::specs::Cells::letter_number, crate::specs::Cells::letter_of, crate::specs::Rivers::river_wrong, numeric::specs::Check::first_holding))]
+#[tactic(auto, unfolding(crate::specs::Cells::letter_answer, crate::specs::Cells::letter_number, crate::specs::Cells::letter_of, crate::specs::Rivers::river_wrong, stoichiometry::specs::Levels::level_of, numeric::specs::Check::first_holding))]
 pub fn letter_of(river: River, cell: u32) -> Result<Letter, Refusal>
     ensures answer { result ≡ letter_answer river cell }
 {
@@ -148,7 +121,7 @@ pub fn letter_of(river: River, cell: u32) -> Result<Letter, Refusal>
         return Err(Refusal::Place);
     }
     let start = (cell - 1) as usize * SUBSTANCES;
-    let oxygen = river.amounts[start + place::O2];
-    let ammonium = river.amounts[start + place::NH4];
-    Ok(letter(oxygen, ammonium))
+    let oxygen = Microgram::Oxygen.level(river.amounts[start + place::O2]);
+    let ammonium = Microgram::Nitrogen.level(river.amounts[start + place::NH4]);
+    Ok(letter_by(oxygen, ammonium))
 }

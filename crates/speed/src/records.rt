@@ -4,9 +4,9 @@ use page::Page;
 use record::Record;
 use river::River;
 
-pub(crate) const BYTES: usize = River::CELLS_MOST * Record::CELL_BYTES;
+pub(crate) const BYTES: usize = Record::BYTES_MOST;
 
-pub(crate) const PAGE_BYTES: usize = River::CELLS_MOST * Page::ROW_BYTES;
+pub(crate) const PAGE_BYTES: usize = Page::BYTES_MOST;
 
 fn record_of(river: River) -> [u8; BYTES] {
     let mut output = [0; BYTES];

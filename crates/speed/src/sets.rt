@@ -8,20 +8,13 @@ use stoichiometry::{
 
 pub(crate) const SETS: usize = 8;
 
-fn organism(growth: u32, respiration: u32) -> GrowthRates {
-    GrowthRates {
-        growth,
-        respiration,
-    }
-}
-
 // Thousandths per day.
 fn rates() -> RateConstants {
     RateConstants {
-        aerobic: organism(2000, 200),
-        anoxic: organism(1600, 1000),
-        xn1: organism(800, 50),
-        xn2: organism(1100, 50),
+        aerobic: GrowthRates::new(2000, 200),
+        anoxic: GrowthRates::new(1600, 1000),
+        xn1: GrowthRates::new(800, 50),
+        xn2: GrowthRates::new(1100, 50),
         algae: AlgaeRates {
             ammonium: 2000,
             nitrate: 2000,
@@ -63,12 +56,6 @@ pub(crate) fn conditions_of(turn: u64) -> Conditions {
     Conditions {
         seconds: (50 + turn % 16) as u32,
         light: (500000 + turn % 1000) as u32,
-        temperatures: Temperatures {
-            xh: warmth,
-            xn1: warmth,
-            xn2: warmth,
-            algae: warmth,
-            hydrolysis: warmth,
-        },
+        temperatures: Temperatures::all(warmth),
     }
 }

@@ -1,19 +1,14 @@
 // One cell: its amounts, and its levels.
-ghost use Rattle.std.specs.Prelude.{◌≡◌, nat_abs};
+ghost use Rattle.std.specs.Prelude.{◌≡◌, ◌/◌, ◌<◌, nat_abs};
+ghost use Rattle.stoichiometry.specs.Substances.{substances};
+ghost use Rattle.stoichiometry.specs.Levels.{in_microgram};
 ghost use Rattle.kinetics.specs.Rates.{levels_of};
 ghost use Rattle.stoichiometry.specs.Totals.{amount_at};
-ghost use Rattle.step.specs.Inner.Rating.{CellFits, Counted, level_list, kept_levels};
+ghost use Rattle.step.specs.Inner.Rating.{CellFits, level_list, kept_levels};
 
 use crate::levels::CellLevels;
 use river::AMOUNTS;
-use stoichiometry::{SUBSTANCES, Set, place};
-
-// Grains per µg.
-const GRAINS_O: u64 = Set::GRAINS_PER_MICROGRAM_O as u64;
-
-const GRAINS_N: u64 = Set::GRAINS_PER_MICROGRAM_N as u64;
-
-const GRAINS_P: u64 = Set::GRAINS_PER_MICROGRAM_P as u64;
+use stoichiometry::{Microgram, SUBSTANCES, place};
 
 // Cell c of a river, whose amounts are in their bounds.
 #[derive(Clone, Copy)]
@@ -24,12 +19,20 @@ pub(crate) struct Cell<'a> {
 }
 
 impl Cell<'_> {
-    // The amount of the substance at place s, which is not negative: all but the net changes.
+    // The amount of the organic at place s, µg.
     fn amount(&self, s: usize) -> u64
-        requires { Counted s }
+        requires { s < substances }
         ensures { result ≡ nat_abs (amount_at self.now.amounts.now self.now.c s) }
     {
-        self.amounts[self.c * SUBSTANCES + s] as u64
+        self.amounts[self.c * SUBSTANCES + s].unsigned_abs()
+    }
+
+    // The level of the dissolved substance at place s, µg.
+    fn level(&self, s: usize, microgram: Microgram) -> u64
+        requires { s < substances }
+        ensures { result ≡ nat_abs (amount_at self.now.amounts.now self.now.c s) / in_microgram microgram }
+    {
+        microgram.level(self.amounts[self.c * SUBSTANCES + s])
     }
 
     pub(crate) fn levels(&self) -> CellLevels
@@ -37,17 +40,17 @@ impl Cell<'_> {
     {
         CellLevels {
             ss: self.amount(place::SS),
-            nh4: self.amount(place::NH4) / GRAINS_N,
-            no2: self.amount(place::NO2) / GRAINS_N,
-            no3: self.amount(place::NO3) / GRAINS_N,
-            hpo4: self.amount(place::HPO4) / GRAINS_P,
-            o2: self.amount(place::O2) / GRAINS_O,
+            nh4: self.level(place::NH4, Microgram::Nitrogen),
+            no2: self.level(place::NO2, Microgram::Nitrogen),
+            no3: self.level(place::NO3, Microgram::Nitrogen),
+            hpo4: self.level(place::HPO4, Microgram::Phosphorus),
+            o2: self.level(place::O2, Microgram::Oxygen),
             xh: self.amount(place::XH),
             xn1: self.amount(place::XN1),
             xn2: self.amount(place::XN2),
             xalg: self.amount(place::XALG),
             xs: self.amount(place::XS),
-            xp: self.amount(place::XP) / GRAINS_P,
+            xp: self.level(place::XP, Microgram::Phosphorus),
         }
     }
 }

@@ -5,7 +5,7 @@ ghost use Rattle.std.specs.Prelude.{◌≡◌};
 ghost use Rattle.step.specs.Steps.{step_answer};
 
 use crate::stepping::step_cells;
-use kinetics::{Conditions, conditions_wrong};
+use kinetics::Conditions;
 use river::{AMOUNTS, CARRIES, River, amounts_fit};
 use rows::rows_of;
 use stoichiometry::{Refusal, Set};
@@ -29,7 +29,7 @@ pub fn step_river(set: Set, river: River, conditions: Conditions) -> Result<Rive
     if !river.fits() {
         return Err(Refusal::River);
     }
-    if conditions_wrong(conditions) {
+    if conditions.are_wrong() {
         return Err(Refusal::Conditions);
     }
     let mut after = River {

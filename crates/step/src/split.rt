@@ -20,7 +20,8 @@ fn divided(carry: u32, extent: u64) -> (i64, u32)
     ((carried / BATCH) as i64, (carried % BATCH) as u32)
 }
 
-// The whole batches and the new carries of one cell, whose carries stand from `at` on.
+// The whole batches and the new carries of one cell, whose carries stand from `at` on. The lists whole: of parts, three
+// would be cut out at the call, and each put back.
 pub(crate) fn split(
     extents: &[u64; PROCESSES],
     carries: &[u32; CARRIES],

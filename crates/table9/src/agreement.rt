@@ -106,7 +106,8 @@ fn agrees_with_entry(
     Some(agrees_in_reach(change < 0, amount, unit, figure))
 }
 
-// Whether a figure agrees with the entry of its row, or a blank's entry is 0.
+// Whether a figure agrees with the entry of its row, or a blank's entry is 0. Where there is no such row or column, a
+// blank is right and a figure is not.
 pub(crate) fn is_right(
     rows: &[i64; ENTRIES],
     process: usize,
@@ -115,6 +116,6 @@ pub(crate) fn is_right(
 ) -> bool {
     match figure {
         Some(figure) => agrees_with_entry(rows, process, substance, figure).unwrap_or(false),
-        None => entry(rows, process, substance) == Some(0),
+        None => entry(rows, process, substance).unwrap_or(0) == 0,
     }
 }

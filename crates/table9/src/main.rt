@@ -8,7 +8,6 @@ mod set;
 mod table;
 
 use anyhow::Result;
-use std::str;
 use streams::read_full;
 
 // The most bytes of the table that are read.
@@ -18,6 +17,6 @@ fn main(rt: HostRuntime) -> Result<()> {
     let mut text = [0; MOST];
     let n = read_full(&mut rt.reader(), &mut text)?;
     let rows = set::published_rows()?;
-    table::compare(&rt, str::from_utf8(&text[..n])?, &rows)?;
+    table::compare(&rt, &text[..n], &rows)?;
     Ok(())
 }

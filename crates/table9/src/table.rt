@@ -1,4 +1,5 @@
-// The text of the table, and what is counted and written of it.
+// The text of the table, and what is counted and written of it. A space or a line feed ends a cell, a line feed a row;
+// any other bytes, also those of no UTF-8, can stand in a cell.
 use crate::agreement::{Figure, is_right};
 use std::fmt;
 use std::io::Result;
@@ -12,10 +13,13 @@ struct Count {
 }
 
 impl Count {
-    // One more. No count of a table reaches the limit.
+    // From there on a count stays as it is.
+    const MOST: u32 = 1000;
+
+    // One more.
     fn take(&mut self, right: bool) {
-        self.all = self.all.saturating_add(1);
-        self.right = self.right.saturating_add(u32::from(right));
+        self.all = self.all.saturating_add(1).min(Count::MOST);
+        self.right = self.right.saturating_add(u32::from(right)).min(Count::MOST);
     }
 }
 
@@ -49,24 +53,40 @@ impl fmt::Display for Tally {
     }
 }
 
-// The figure of a cell, with a sign, digits and a point; none of a cell whose digits are 0, which is a blank. A figure
-// with too many digits is out of reach of any entry.
-fn figure_of(cell: &str) -> Option<Figure> {
+// A cell without the space or the line feed that ends it. What has no such end is no cell, nor is an end alone.
+fn cell_of(part: &[u8]) -> Option<&[u8]> {
+    match part.split_last() {
+        Some((b' ' | b'\n', cell)) if !cell.is_empty() => Some(cell),
+        _ => None,
+    }
+}
+
+// From nine digits on a number stays as it is, out of reach of any entry.
+fn with_digit(number: u64, digit: u8) -> u64 {
+    if number < 100000000 {
+        number * 10 + u64::from(digit)
+    } else {
+        number
+    }
+}
+
+// The figure of a cell, with a sign, digits and a point among any other bytes; none of a cell whose digits are 0, which
+// is a blank.
+fn figure_of(cell: &[u8]) -> Option<Figure> {
     let mut figure = Figure {
         negative: false,
         digits: 0,
         scale: 1,
     };
     let mut has_point = false;
-    for byte in cell.bytes() {
-        match byte {
+    for byte in cell {
+        match *byte {
             b'-' => figure.negative = true,
             b'.' => has_point = true,
-            b'0'..=b'9' => {
-                let tenfold = figure.digits.saturating_mul(10);
-                figure.digits = tenfold.saturating_add(u64::from(byte - b'0'));
+            digit @ b'0'..=b'9' => {
+                figure.digits = with_digit(figure.digits, digit - b'0');
                 if has_point {
-                    figure.scale = figure.scale.saturating_mul(10);
+                    figure.scale = with_digit(figure.scale, 0);
                 }
             }
             _ => {}
@@ -75,15 +95,18 @@ fn figure_of(cell: &str) -> Option<Figure> {
     (figure.digits > 0).then_some(figure)
 }
 
-// Writes a line for each row of the table and one for all of them. A line that begins with no number, as the heading
-// does, is no row.
-pub(crate) fn compare(rt: &impl Print, text: &str, rows: &[i64; ENTRIES]) -> Result<()> {
+// Writes a line for each row of the table and one for all of them. A line whose first cell is a blank, as that of the
+// heading, is no row. The cells of a last line with no line feed are counted with all, and its row is not written.
+pub(crate) fn compare(rt: &impl Print, text: &[u8], rows: &[i64; ENTRIES]) -> Result<()> {
     let mut all = Tally::default();
-    for line in text.lines() {
-        let mut cells = line.split_whitespace();
-        let Some(Ok(process)) = cells.next().map(|cell| cell.parse::<usize>()) else {
+    for line in text.split_inclusive(|byte| *byte == b'\n') {
+        let mut cells = line
+            .split_inclusive(|byte| matches!(*byte, b' ' | b'\n'))
+            .filter_map(cell_of);
+        let Some(first) = cells.next().and_then(figure_of) else {
             continue;
         };
+        let process = first.digits as usize;
         let mut row = Tally::default();
         for (substance, cell) in cells.enumerate() {
             let figure = figure_of(cell);
@@ -91,7 +114,9 @@ pub(crate) fn compare(rt: &impl Print, text: &str, rows: &[i64; ENTRIES]) -> Res
             row.take(figure, right);
             all.take(figure, right);
         }
-        println!(rt; "row {process:>2}: {row}")?;
+        if line.ends_with(b"\n") {
+            println!(rt; "row {process:>2}: {row}")?;
+        }
     }
     println!(rt; "all rows: {all}")
 }

@@ -1,38 +1,18 @@
--- The last digits of columns, one, two and four at a time: with the columns that are left before them they are the
--- columns. What is written behind columns leaves them blank. No assumptions.
+-- Digits written over the last columns of a text, one, two and four at a time: what is written before them is the rest
+-- of the number over the columns that are left. Over blanks they are the number in columns. No assumptions.
 use Prim.Native.Nat.{ℕ, zero, suc, ◌+◌, ◌-◌, ◌*◌, ◌/◌, ◌%◌, ◌≤◌, ◌<◌}
 use mathlib.Core.List.{List, [], ◌∷◌, ◌++◌, append_assoc}
 use mathlib.Core.Path.{◌≡◌, refl, sym, ap, ap₂, ◌∙◌}
+use native.Mathlib.Numerals.{add-one}
 use native.Mathlib.Omega.{arith}
-use lib.ListN.{length, set, take, drop, replicate, length-set, length-take, get_or-append, get_or-replicate, length-replicate}
-use lib.Seq.{length-take-le, get_or-take}
+use lib.ListN.{length, take, set, replicate}
+use lib.Seq.{take_at, drop-length}
 use Rattle.text.specs.Writes.{put}
-use Rattle.text.specs.Decimals.{columns, plain}
-use Rattle.text.specs.Inner.Stages.{Blank, pair, four}
-use Rattle.text.proofs.WriteLaws.{put_before, put_all, front_written}
-use Rattle.text.proofs.DecimalLaws.{glyph_zero, glyph-digit, next_mark_zero, next_mark-digit, columns-length}
-use Rattle.text.proofs.DecimalLaws.{columns_turn, plain_turn, plain-length, blank_set, blank_end}
-
--- The mark alone, in columns that are blank.
-pub mark_stored : (l : List ℕ) (at i m : ℕ) → 0 < i → at + i ≤ length l → Blank l at i
-    → set l (at + (i - 1)) m ≡ put l at (columns i m 0)
-mark_stored l at i m some room blank =
-    let k = at + (i - 1) in
-    let long : length (set l k m) ≡ length l = length-set l k m in
-    let rest : Blank (set l k m) at (i - 1) = blank_set l at i (i - 1) k m blank (omega arith) (omega arith) in
-    sym (blank_end (set l k m) at (i - 1) 32 0 rest (omega arith) refl refl)
-    ∙ columns_turn l at i m 0 m 32 some room (sym (glyph_zero 0 m refl)) (sym (next_mark_zero 0 m refl))
-
--- The only digit of a number.
-pub digit_turn : (l : List ℕ) (at i m n : ℕ) → 0 < i → at + i ≤ length l → 0 < n → n < 10
-    → put (set l (at + (i - 1)) (48 + n)) at (columns (i - 1) m 0) ≡ put l at (columns i m n)
-digit_turn l at i m n some room digit one =
-    let none : 0 ≡ n / 10 = omega arith in
-    let ones : 48 + n ≡ 48 + n % 10 = omega arith in
-    let not_zero : n ≡ 0 → ⊥ = λ e. omega arith in
-    ap (λ (r : ℕ). put (set l (at + (i - 1)) (48 + n)) at (columns (i - 1) m r)) none
-    ∙ columns_turn l at i m n (48 + n) m some room
-    (ones ∙ sym (glyph-digit n m not_zero)) (sym (next_mark-digit n m not_zero))
+use Rattle.text.proofs.WriteLaws.{set-put}
+use Rattle.text.proofs.DecimalLaws.{glyph_zero, glyph-digit}
+use Rattle.std.proofs.lemmas.List.{take-take, take-replicate, length-take-le, length-replicate, replicate-append-replicate}
+use Rattle.text.specs.Decimals.{glyph, next_mark, columns, plain}
+use Rattle.text.specs.Inner.Stages.{digits_over, pair, four}
 
 -- The digits by the remainder are those of the number.
 pair_eq : (a b : ℕ) → a % 100 ≡ b % 100 → pair a ≡ pair b
@@ -49,127 +29,167 @@ four_last n =
     let r = n - n / 10000 * 10000 in
     ap₂ ◌++◌ (pair_eq (r / 100) (n / 100) (omega arith)) (pair_eq r n (omega arith))
 
--- A write behind them leaves columns blank.
-pub blank_put : (l l₁ : List ℕ) (at i j k : ℕ) (xs : List ℕ) → Blank l at i → j ≤ i → at + j ≤ k → k ≤ length l
-    → l₁ ≡ put l k xs
-    → Blank l₁ at j
-unfolding put
-blank_put l l₁ at i j k xs h le room within e n lt =
-    let long : length (take k l) ≡ k = length-take-le k l within in
-    rw e
-    (get_or-append (take k l) (xs ++ drop (k + length xs) l) 0 (at + n) (omega arith)
-    ∙ get_or-take k l (at + n) 0 (omega arith)
-    ∙ h n (omega arith))
+-- Only the columns themselves are read.
+over-take : (i j m r : ℕ) (l : List ℕ) → i ≤ j → digits_over i (take j l) m r ≡ digits_over i l m r
+unfolding digits_over
+over-take zero j m r l h = refl
+over-take (suc i) j m zero l h = ap (λ (x : List ℕ). x ++ (m ∷ [])) (take-take i j l (omega arith))
+over-take (suc i) j m (suc r) l h =
+    ap (λ (x : List ℕ). x ++ ((48 + suc r % 10) ∷ [])) (over-take i j m (suc r / 10) l (omega arith))
+
+over_digit : (i m r : ℕ) (l : List ℕ) → 0 < r
+    → digits_over (suc i) l m r ≡ digits_over i l m (r / 10) ++ ((48 + r % 10) ∷ [])
+unfolding digits_over
+over_digit i m zero l h = absurd (omega arith)
+over_digit i m (suc r) l h = refl
 
 -- Columns that end with two digits, and with four.
-columns_two : (j m r : ℕ) → 10 ≤ r → columns (suc (suc j)) m r ≡ columns j m (r / 100) ++ pair r
-unfolding columns
-columns_two j m r h =
-    let tens : r / 10 ≡ 0 → ⊥ = λ e. omega arith in
-    let ones : r ≡ 0 → ⊥ = λ e. omega arith in
+over_two : (i m r : ℕ) (l : List ℕ) → 10 ≤ r
+    → digits_over (suc (suc i)) l m r ≡ digits_over i l m (r / 100) ++ pair r
+over_two i m r l h =
     let hundreds : r / 10 / 10 ≡ r / 100 = omega arith in
-    rw (next_mark-digit r m ones, next_mark-digit (r / 10) m tens, glyph-digit r m ones, glyph-digit (r / 10) m tens)
-    (rw hundreds (append_assoc (columns j m (r / 100)) ((48 + r / 10 % 10) ∷ []) ((48 + r % 10) ∷ [])))
+    over_digit (suc i) m r l (omega arith)
+    ∙ ap (λ (x : List ℕ). x ++ ((48 + r % 10) ∷ [])) (over_digit i m (r / 10) l (omega arith))
+    ∙ rw hundreds (append_assoc (digits_over i l m (r / 100)) ((48 + r / 10 % 10) ∷ []) ((48 + r % 10) ∷ []))
 
-columns-four : (j m r : ℕ) → 1000 ≤ r → columns (suc (suc (suc (suc j)))) m r ≡ columns j m (r / 10000) ++ four r
-columns-four j m r h =
+over-four : (i m r : ℕ) (l : List ℕ) → 1000 ≤ r
+    → digits_over (suc (suc (suc (suc i)))) l m r ≡ digits_over i l m (r / 10000) ++ four r
+over-four i m r l h =
     let thousands : r / 100 / 100 ≡ r / 10000 = omega arith in
-    rw (columns_two (suc (suc j)) m r (omega arith), columns_two j m (r / 100) (omega arith), thousands)
-    (append_assoc (columns j m (r / 10000)) (pair (r / 100)) (pair r))
+    over_two (suc (suc i)) m r l (omega arith)
+    ∙ ap (λ (x : List ℕ). x ++ pair r) (over_two i m (r / 100) l (omega arith))
+    ∙ rw thousands (append_assoc (digits_over i l m (r / 10000)) (pair (r / 100)) (pair r))
 
-module _ (l : List ℕ) (at i m r : ℕ) (room : at + i ≤ length l) where
-  -- The last d digits are written: the columns before them are left.
-  last_turn : (d q : ℕ) (xs : List ℕ) → length xs ≡ d → d ≤ i → columns i m r ≡ columns (i - d) m q ++ xs
-      → put (put l (at + (i - d)) xs) at (columns (i - d) m q) ≡ put l at (columns i m r)
-  last_turn d q xs e le whole =
-      let long = columns-length (i - d) m q in
-      rw whole (put_before l at (at + (i - d)) (columns (i - d) m q) xs (omega arith) (omega arith))
+-- No column, and the mark alone.
+pub over-none : (l : List ℕ) (m r : ℕ) → length l ≡ 0 → l ≡ digits_over (length l) l m r
+unfolding digits_over
+over-none [] m r e = refl
+over-none (x ∷ l) m r e = absurd (omega arith)
 
-  pub pair_turn : 2 ≤ i → 10 ≤ r
-      → put (put l (at + (i - 2)) (pair r)) at (columns (i - 2) m (r / 100)) ≡ put l at (columns i m r)
-  pair_turn two h =
-      let all : i ≡ suc (suc (i - 2)) = omega arith in
-      last_turn 2 (r / 100) (pair r) refl two (ap (λ (k : ℕ). columns k m r) all ∙ columns_two (i - 2) m r h)
+pub over-mark : (l : List ℕ) (m : ℕ) → 0 < length l → set l (length l - 1) m ≡ digits_over (length l) l m 0
+unfolding digits_over put
+over-mark l m h =
+    let all : length l ≡ suc (length l - 1) = omega arith in
+    let end : length l - 1 + 1 ≡ length l = omega arith in
+    set-put l (length l - 1) m (omega arith)
+    ∙ rw (end, drop-length l) refl
+    ∙ sym (ap (λ (i : ℕ). digits_over i l m 0) all)
 
-  pub four_turn : 4 ≤ i → 1000 ≤ r
-      → put (put l (at + (i - 4)) (four r)) at (columns (i - 4) m (r / 10000)) ≡ put l at (columns i m r)
-  four_turn some h =
-      let all : i ≡ suc (suc (suc (suc (i - 4)))) = omega arith in
-      last_turn 4 (r / 10000) (four r) refl some (ap (λ (k : ℕ). columns k m r) all ∙ columns-four (i - 4) m r h)
+-- The last digits are written, and before them the rest q of the number over the columns before.
+module _ (l before ys : List ℕ) (m r q : ℕ) (rest : ys ≡ digits_over (length before) before m q) where
+  joined : (d : ℕ) (xs zs : List ℕ) → xs ≡ zs → d ≤ length l → before ≡ take (length l - d) l
+      → digits_over (length l) l m r ≡ digits_over (length l - d) l m q ++ zs
+      → ys ++ xs ≡ digits_over (length l) l m r
+  joined d xs zs last le e whole =
+      let j = length l - d in
+      let long : length before ≡ j = ap length e ∙ length-take-le j l (omega arith) in
+      ap₂ ◌++◌
+      (rest ∙ ap₂ (λ (i : ℕ) (x : List ℕ). digits_over i x m q) long e ∙ over-take j j m q l (omega arith))
+      last
+      ∙ sym whole
 
--- Columns that are all of a text, or its first ones.
-pub columns_whole : (l : List ℕ) (m r : ℕ) → put l 0 (columns (length l) m r) ≡ columns (length l) m r
-columns_whole l m r = put_all l _ (columns-length (length l) m r)
+  pub digit_joined : (d x : ℕ) → l ≡ before ++ (x ∷ []) → length before + 1 ≡ length l → 0 < r → q ≡ r / 10
+      → d ≡ r % 10
+      → ys ++ ((48 + d) ∷ []) ≡ digits_over (length l) l m r
+  digit_joined d x e long some eq ed =
+      let all : length l ≡ suc (length l - 1) = omega arith in
+      joined 1 _ _ (ap (λ (k : ℕ). (48 + k) ∷ []) ed) (omega arith)
+      (sym (ap (take (length l - 1)) e ∙ take_at before (x ∷ []) (length l - 1) (omega arith)))
+      (ap (λ (i : ℕ). digits_over i l m r) all
+      ∙ over_digit (length l - 1) m r l some
+      ∙ ap (λ (k : ℕ). digits_over (length l - 1) l m k ++ ((48 + r % 10) ∷ [])) (sym eq))
 
-pub blank_first : (l : List ℕ) (i j : ℕ) → Blank l 0 i → j ≤ i → Blank (take j l) 0 (length (take j l))
-blank_first l i j h le n lt =
-    let below = length-take j l in get_or-take j l (0 + n) 0 (omega arith) ∙ h n (omega arith)
+  pub pair_joined : (xs : List ℕ) → before ≡ take (length l - 2) l → length before + 2 ≡ length l → 10 ≤ r
+      → q ≡ r / 100
+      → xs ≡ pair r
+      → ys ++ xs ≡ digits_over (length l) l m r
+  pair_joined xs e long some eq last =
+      let all : length l ≡ suc (suc (length l - 2)) = omega arith in
+      joined 2 xs _ last (omega arith) e
+      (ap (λ (i : ℕ). digits_over i l m r) all
+      ∙ over_two (length l - 2) m r l some
+      ∙ ap (λ (k : ℕ). digits_over (length l - 2) l m k ++ pair r) (sym eq))
 
--- The first j columns are written: with what stands behind them they are the columns of the whole text l₀.
-pub first_written : (l₀ l ys : List ℕ) (j m r m₀ r₀ : ℕ) → j ≤ length l → ys ≡ columns (length (take j l)) m r
-    → put l 0 (columns j m r) ≡ put l₀ 0 (columns (length l₀) m₀ r₀)
-    → ys ++ drop j l ≡ columns (length l₀) m₀ r₀
-first_written l₀ l ys j m r m₀ r₀ le e written =
-    front_written l ys (columns j m r) j (columns-length j m r)
-    (e ∙ ap (λ (i : ℕ). columns i m r) (length-take-le j l le))
-    ∙ written
-    ∙ columns_whole l₀ m₀ r₀
+  pub four_joined : (xs : List ℕ) → before ≡ take (length l - 4) l → length before + 4 ≡ length l → 1000 ≤ r
+      → q ≡ r / 10000
+      → xs ≡ four r
+      → ys ++ xs ≡ digits_over (length l) l m r
+  four_joined xs e long some eq last =
+      let all : length l ≡ suc (suc (suc (suc (length l - 4)))) = omega arith in
+      joined 4 xs _ last (omega arith) e
+      (ap (λ (i : ℕ). digits_over i l m r) all
+      ∙ over-four (length l - 4) m r l some
+      ∙ ap (λ (k : ℕ). digits_over (length l - 4) l m k ++ four r) (sym eq))
 
--- The turns of the loops, from the first column on.
-module _ (l l₁ : List ℕ) (i m r : ℕ) (room : i ≤ length l) where
-  pub digit_first : 0 < i → 0 < r → r < 10 → l₁ ≡ set l (i - 1) (48 + r)
-      → put l₁ 0 (columns (i - 1) m 0) ≡ put l 0 (columns i m r)
-  digit_first some digit one e =
-      let place : i - 1 ≡ 0 + (i - 1) = omega arith in
-      rw e
-      (ap (λ (k : ℕ). put (set l k (48 + r)) 0 (columns (i - 1) m 0)) place
-      ∙ digit_turn l 0 i m r some (omega arith) digit one)
+-- Blanks before a blank.
+blanks : (i : ℕ) → columns i 32 0 ≡ replicate i 32
+unfolding columns glyph next_mark
+blanks zero = refl
+blanks (suc i) =
+    ap (λ (x : List ℕ). x ++ (32 ∷ [])) (blanks i)
+    ∙ replicate-append-replicate i 1 32
+    ∙ ap (λ (k : ℕ). replicate {A = ℕ} k 32) (add-one i)
 
-  pub pair_first : 2 ≤ i → 10 ≤ r → l₁ ≡ put l (i - 2) (pair r)
-      → put l₁ 0 (columns (i - 2) m (r / 100)) ≡ put l 0 (columns i m r)
-  pair_first two h e =
-      let place : i - 2 ≡ 0 + (i - 2) = omega arith in
-      rw e
-      (ap (λ (k : ℕ). put (put l k (pair r)) 0 (columns (i - 2) m (r / 100))) place
-      ∙ pair_turn l 0 i m r (omega arith) two h)
-
-  pub four_first : 4 ≤ i → 1000 ≤ r → l₁ ≡ put l (i - 4) (four r)
-      → put l₁ 0 (columns (i - 4) m (r / 10000)) ≡ put l 0 (columns i m r)
-  four_first some h e =
-      let place : i - 4 ≡ 0 + (i - 4) = omega arith in
-      rw e
-      (ap (λ (k : ℕ). put (put l k (four r)) 0 (columns (i - 4) m (r / 10000))) place
-      ∙ four_turn l 0 i m r (omega arith) some h)
-
--- The mark alone, in the last column.
-pub mark_first : (l : List ℕ) (m : ℕ) → 0 < length l → Blank l 0 (length l) → set l (length l - 1) m ≡ columns (length l) m 0
-mark_first l m some blank =
-    let place : length l - 1 ≡ 0 + (length l - 1) = omega arith in
-    ap (λ (k : ℕ). set l k m) place ∙ mark_stored l 0 (length l) m some (omega arith) blank ∙ columns_whole l m 0
-
--- Blanks in all columns.
-pub blanks_filled : (l : List ℕ) (n : ℕ) → l ≡ replicate n 32 → Blank l 0 (length l)
-blanks_filled l n e j h =
-    let long : length l ≡ n = ap length e ∙ length-replicate n 32 in
-    rw e (get_or-replicate n (0 + j) 32 0 (omega arith))
+-- Over blanks they are the number in columns.
+over_blanks : (i j m r : ℕ) → i ≤ j → digits_over i (replicate j 32) m r ≡ columns i m r
+unfolding digits_over columns glyph next_mark
+over_blanks zero j m r h = refl
+over_blanks (suc i) j m zero h =
+    ap (λ (x : List ℕ). x ++ (m ∷ [])) (take-replicate i j 32 (omega arith) ∙ sym (blanks i))
+over_blanks (suc i) j m (suc r) h =
+    ap (λ (x : List ℕ). x ++ ((48 + suc r % 10) ∷ [])) (over_blanks i j m (suc r / 10) (omega arith))
 
 -- A number that is not 0 has a digit in the last column by itself.
-pub digits_plain : (i m n : ℕ) → 0 < i → (n ≡ 0 → ⊥) → columns i m n ≡ plain i m n
-unfolding columns plain
-digits_plain zero m n p h = absurd (omega arith)
-digits_plain (suc i) m n p h = rw (next_mark-digit n m h, glyph-digit n m h) refl
+digits_plain : (i m r : ℕ) → 0 < r → columns i m r ≡ plain i m r
+unfolding columns plain glyph next_mark
+digits_plain zero m r h = refl
+digits_plain (suc i) m zero h = absurd (omega arith)
+digits_plain (suc i) m (suc r) h = refl
 
--- A lone zero in the last column, and the mark before it.
-pub zero_first : (l ys : List ℕ) (m : ℕ) → 0 < length l
-    → ys ≡ columns (length (take (length l - 1) (set l (length l - 1) 48))) m 0
-    → ys ++ drop (length l - 1) (set l (length l - 1) 48) ≡ plain (length l) m 0
-zero_first l ys m some e =
-    let j = length l - 1 in
-    let stored = set l j 48 in
-    let long : length stored ≡ length l = length-set l j 48 in
-    let place : j ≡ 0 + j = omega arith in
-    front_written stored ys (columns j m 0) j (columns-length j m 0)
-    (e ∙ ap (λ (i : ℕ). columns i m 0) (length-take-le j stored (omega arith)))
-    ∙ ap (λ (k : ℕ). put (set l k 48) 0 (columns j m 0)) place
-    ∙ plain_turn l 0 (length l) m 0 some (omega arith)
-    ∙ put_all l _ (plain-length (length l) m 0)
+-- The number n over w blanks b: its digits, a lone zero behind its mark, and no column.
+module _ (b : List ℕ) (w m n : ℕ) (blank : b ≡ replicate w 32) where
+  pub over-plain : 0 < n → digits_over (length b) b m n ≡ plain w m n
+  over-plain some =
+      let long : length b ≡ w = ap length blank ∙ length-replicate w 32 in
+      ap₂ (λ (i : ℕ) (x : List ℕ). digits_over i x m n) long blank
+      ∙ over_blanks w w m n (omega arith)
+      ∙ digits_plain w m n some
+
+  pub zero_plain : (before ys : List ℕ) (x : ℕ) → b ≡ before ++ (x ∷ []) → length before + 1 ≡ length b → n ≡ 0
+      → ys ≡ digits_over (length before) before m 0
+      → ys ++ (48 ∷ []) ≡ plain w m n
+  unfolding plain
+  zero_plain before ys x e long none written =
+      let wide : length b ≡ w = ap length blank ∙ length-replicate w 32 in
+      let j = w - 1 in
+      let all : suc j ≡ w = omega arith in
+      let front : before ≡ replicate j 32 =
+      sym (take_at before (x ∷ []) j (omega arith)) ∙ ap (take j) (sym e ∙ blank) ∙ take-replicate j w 32 (omega arith) in
+      let short : length before ≡ j = omega arith in
+      ap (λ (x : List ℕ). x ++ (48 ∷ []))
+      (written
+      ∙ ap₂ (λ (i : ℕ) (x : List ℕ). digits_over i x m 0) short front
+      ∙ over_blanks j j m 0 (omega arith))
+      ∙ ap₂ (λ (k i : ℕ). plain k m i) all (sym none)
+
+  pub none_plain : length b ≡ 0 → b ≡ plain w m n
+  unfolding plain
+  none_plain none =
+      let wide : length b ≡ w = ap length blank ∙ length-replicate w 32 in
+      let no : w ≡ 0 = omega arith in
+      blank ∙ ap (λ (k : ℕ). replicate {A = ℕ} k 32) no ∙ ap (λ (k : ℕ). plain k m n) (sym no)
+
+-- Two columns: below ten a blank and the digit, otherwise two digits.
+pub two_blank : (n : ℕ) → n < 10 → 32 ∷ (48 + n % 100 % 10) ∷ [] ≡ plain 2 32 n
+unfolding columns plain
+two_blank n h =
+    let tens : n / 10 ≡ 0 = omega arith in
+    let ones : 48 + n % 100 % 10 ≡ 48 + n % 10 = omega arith in
+    ap₂ (λ (x y : ℕ). x ∷ y ∷ []) (sym (glyph_zero (n / 10) 32 tens)) ones
+
+pub two_digits : (n : ℕ) → 10 ≤ n → pair (n % 100) ≡ plain 2 32 n
+unfolding columns plain
+two_digits n h =
+    let tens : 48 + n % 100 / 10 % 10 ≡ 48 + n / 10 % 10 = omega arith in
+    let ones : 48 + n % 100 % 10 ≡ 48 + n % 10 = omega arith in
+    ap₂ (λ (x y : ℕ). x ∷ y ∷ []) (tens ∙ sym (glyph-digit (n / 10) 32 (λ e. omega arith))) ones

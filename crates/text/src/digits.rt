@@ -1,12 +1,12 @@
-// Up to four digits at a time, and the mark before them, in columns that hold blanks.
+// Up to four digits at a time, and the mark before them, over the last columns of a text; the columns before the mark
+// stay.
 ghost use Rattle.std.specs.Prelude.{◌≡◌, ◌<◌, length};
-ghost use Rattle.text.specs.Decimals.{columns};
-ghost use Rattle.text.specs.Inner.Stages.{Blank, pair, four};
+ghost use Rattle.text.specs.Inner.Stages.{digits_over, pair, four};
 
 use crate::writing::write_singles;
 
 // Two digits.
-fn pair(n: u32) -> [u8; 2]
+pub(crate) fn pair(n: u32) -> [u8; 2]
     requires { n < 100 }
     ensures { result ≡ pair n }
 {
@@ -29,50 +29,53 @@ pub(crate) fn four(n: u32) -> [u8; 4]
     bytes.to_le_bytes()
 }
 
-// The mark in columns that hold blanks.
+// The mark in the last column.
 pub(crate) fn write_mark(out: &mut [u8], mark: u8)
-    requires { Blank out.old 0 (length out.old) }
-    ensures { out.new ≡ columns (length out.old) mark 0 }
+    ensures { out.new ≡ digits_over (length out.old) out.old mark 0 }
 {
-    if mark == b' ' || out.is_empty() {
-        return;
+    if let Some(last) = out.last_mut() {
+        *last = mark;
     }
-    let last = out.len() - 1;
-    out[last] = mark;
 }
 
-// A number of at most one digit and its mark in columns that hold blanks. No digit where it is 0.
+// A number of at most one digit and its mark. No digit where it is 0.
 fn write_last(out: &mut [u8], mark: u8, n: u32)
-    requires digit { n < 10 }
-    requires blank { Blank out.old 0 (length out.old) }
-    ensures { out.new ≡ columns (length out.old) mark n }
+    requires { n < 10 }
+    ensures { out.new ≡ digits_over (length out.old) out.old mark n }
 {
-    if n == 0 || out.is_empty() {
+    if n == 0 {
         write_mark(out, mark);
         return;
     }
-    let before = out.len() - 1;
-    out[before] = b'0' + n as u8;
-    write_mark(&mut out[..before], mark);
+    if let Some((last, before)) = out.split_last_mut() {
+        *last = b'0' + n as u8;
+        write_mark(before, mark);
+    }
 }
 
-// At most four digits and the mark, two a turn. The walk is over the digits, of which nothing says how many there are.
+// A number of at most four digits and its mark. Both pairs are written here, since a loop over them takes longer.
 pub(crate) fn write_pairs(out: &mut [u8], mark: u8, n: u32)
-    requires digits { n < 10000 }
-    requires blank { Blank out.old 0 (length out.old) }
-    ensures { out.new ≡ columns (length out.old) mark n }
+    requires { n < 10000 }
+    ensures { out.new ≡ digits_over (length out.old) out.old mark n }
 {
-    let mut i = out.len();
-    let mut rest = n;
-    while rest >= 10 {
-        if i < 2 {
-            write_singles(&mut out[..i], mark, u64::from(rest));
-            return;
-        }
-        let more = rest / 100;
-        i -= 2;
-        out[i..i + 2].copy_from_slice(&pair(rest - more * 100));
-        rest = more;
+    if n < 10 {
+        write_last(out, mark, n);
+        return;
     }
-    write_last(&mut out[..i], mark, rest);
+    let Some((before, last)) = out.split_last_chunk_mut::<2>() else {
+        write_singles(out, mark, u64::from(n));
+        return;
+    };
+    let hundreds = n / 100;
+    *last = pair(n - hundreds * 100);
+    if hundreds < 10 {
+        write_last(before, mark, hundreds);
+        return;
+    }
+    let Some((front, first)) = before.split_last_chunk_mut::<2>() else {
+        write_singles(before, mark, u64::from(hundreds));
+        return;
+    };
+    *first = pair(hundreds);
+    write_mark(front, mark);
 }

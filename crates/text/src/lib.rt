@@ -2,17 +2,26 @@
 // every input; a write that does not fit changes nothing. What each call means: specs/.
 #![tactic(auto)]
 
-ghost use Rattle.std.specs.Prelude.{◌≡◌};
+ghost use Rattle.std.specs.Prelude.{◌≡◌, length};
 ghost use Rattle.text.specs.Writes.{put_within, copied};
 ghost use Rattle.text.specs.Decimals.{plain, decimal};
 
-use crate::writing::{glyph, mark_of, write_plain};
+use crate::digits::pair;
+use crate::writing::{mark_of, write_plain};
 use numeric::magnitude;
 
 mod digits;
 mod writing;
 
-// The value in `width` columns from `at` on, where they are all there.
+// The value over all of the columns.
+pub fn write_value(columns: &mut [u8], value: i64)
+    ensures columns { columns.new ≡ decimal (length columns.old) value }
+{
+    write_plain(columns, mark_of(value), magnitude(value));
+}
+
+// The value in `width` columns from `at` on, where they are all there. Kept beside `write_value` for callers that have a
+// place and a width: no place and no width is wrong, and one that is past the end is tested here.
 pub fn write_decimal(out: &mut [u8], at: usize, width: usize, value: i64)
     ensures out { out.new ≡ put_within out.old at (decimal width value) }
 {
@@ -22,19 +31,18 @@ pub fn write_decimal(out: &mut [u8], at: usize, width: usize, value: i64)
     if out.len() - at < width {
         return;
     }
-    if width > 0 {
-        write_plain(&mut out[at..at + width], mark_of(value), magnitude(value));
-    }
+    write_value(&mut out[at..at + width], value);
 }
 
 // The bytes of n in two columns: its tens, a blank where there are none, and its ones; of more digits the last two.
 pub fn two_columns(n: u32) -> [u8; 2]
     ensures columns { result ≡ plain 2 32 n }
 {
-    [glyph(u64::from(n / 10), b' '), b'0' + (n % 10) as u8]
+    let [tens, ones] = pair(n % 100);
+    [if n < 10 { b' ' } else { tens }, ones]
 }
 
-// n in two columns from `at` on, where both are there.
+// n in two columns from `at` on, where both are there. Kept beside `two_columns`, as `write_decimal` is.
 pub fn write_two(out: &mut [u8], at: usize, n: u32)
     ensures out { out.new ≡ put_within out.old at (plain 2 32 n) }
 {

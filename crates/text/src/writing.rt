@@ -1,28 +1,10 @@
-// Inner functions of the writer: blanks first, then the digits from the last on to the left, four at a time as long as
-// there are four before them, and the mark. Each writes the columns before what is already there.
-ghost use Rattle.std.specs.Prelude.{◌≡◌, ◌<◌, length, replicate};
-ghost use Rattle.text.specs.Decimals.{glyph, next_mark, columns, plain, mark_of};
-ghost use Rattle.text.specs.Inner.Stages.{Blank};
+// Inner functions of the writer: blanks first, then over the last of them the digits from the last on to the left, four
+// at a time as long as there are four before them, and the mark. The columns before the mark stay as they are.
+ghost use Rattle.std.specs.Prelude.{◌≡◌, length, replicate};
+ghost use Rattle.text.specs.Decimals.{plain, mark_of};
+ghost use Rattle.text.specs.Inner.Stages.{digits_over};
 
 use crate::digits::{four, write_mark, write_pairs};
-
-// The byte of a column for what is left of the number there: its last digit, or the mark where nothing is left.
-pub(crate) fn glyph(rest: u64, mark: u8) -> u8
-    ensures { result ≡ glyph rest mark }
-{
-    if rest == 0 {
-        mark
-    } else {
-        b'0' + (rest % 10) as u8
-    }
-}
-
-// The mark for the column before: a mark stands once.
-fn next_mark(rest: u64, mark: u8) -> u8
-    ensures { result ≡ next_mark rest mark }
-{
-    if rest == 0 { b' ' } else { mark }
-}
 
 // A minus below zero, otherwise a blank.
 pub(crate) fn mark_of(value: i64) -> u8
@@ -31,42 +13,35 @@ pub(crate) fn mark_of(value: i64) -> u8
     if value < 0 { b'-' } else { b' ' }
 }
 
-// The digits of n and its mark in columns that hold blanks, one column a turn: the last digits where there are fewer
-// columns than digits.
+// The digits of n and its mark, one column a call: the last digits where there are fewer columns than digits.
 pub(crate) fn write_singles(out: &mut [u8], mark: u8, n: u64)
-    requires { Blank out.old 0 (length out.old) }
-    ensures { out.new ≡ columns (length out.old) mark n }
+    ensures { out.new ≡ digits_over (length out.old) out.old mark n }
 {
-    let mut m = mark;
-    let mut rest = n;
-    for i in (0..out.len()).rev() {
-        if rest == 0 && m == b' ' {
-            return;
-        }
-        out[i] = glyph(rest, m);
-        m = next_mark(rest, m);
-        rest = rest / 10;
+    if n == 0 {
+        write_mark(out, mark);
+        return;
+    }
+    if let Some((last, before)) = out.split_last_mut() {
+        *last = b'0' + (n % 10) as u8;
+        write_singles(before, mark, n / 10);
     }
 }
 
-// The digits of n and its mark in columns that hold blanks, four a turn. The walk is over the digits, not the columns.
+// The digits of n and its mark, four columns a call.
 fn write_columns(out: &mut [u8], mark: u8, n: u64)
-    requires { Blank out.old 0 (length out.old) }
-    ensures { out.new ≡ columns (length out.old) mark n }
+    ensures { out.new ≡ digits_over (length out.old) out.old mark n }
 {
-    let mut i = out.len();
-    let mut rest = n;
-    while rest >= 10000 {
-        if i < 4 {
-            write_singles(&mut out[..i], mark, rest);
-            return;
-        }
-        let more = rest / 10000;
-        i -= 4;
-        out[i..i + 4].copy_from_slice(&four((rest - more * 10000) as u32));
-        rest = more;
+    if n < 10000 {
+        write_pairs(out, mark, n as u32);
+        return;
     }
-    write_pairs(&mut out[..i], mark, rest as u32);
+    let Some((before, last)) = out.split_last_chunk_mut::<4>() else {
+        write_singles(out, mark, n);
+        return;
+    };
+    let more = n / 10000;
+    *last = four((n - more * 10000) as u32);
+    write_columns(before, mark, more);
 }
 
 // Blanks in all columns, by a loop: `fill` clones the blank and stores the last one apart, and a record takes longer.
@@ -80,15 +55,15 @@ fn write_blanks(out: &mut [u8])
 
 // n over all of some columns, with the mark before its first digit.
 pub(crate) fn write_plain(out: &mut [u8], mark: u8, n: u64)
-    requires { 0 < length out.old }
     ensures { out.new ≡ plain (length out.old) mark n }
 {
     write_blanks(out);
-    if n == 0 {
-        let before = out.len() - 1;
-        out[before] = b'0';
-        write_mark(&mut out[..before], mark);
+    if n > 0 {
+        write_columns(out, mark, n);
         return;
     }
-    write_columns(out, mark, n);
+    if let Some((last, before)) = out.split_last_mut() {
+        *last = b'0';
+        write_mark(before, mark);
+    }
 }

@@ -4,20 +4,13 @@ use stoichiometry::{
     HalfSaturations, RateConstants, Refusal, Set, Xn1HalfSaturations, Xn2HalfSaturations,
 };
 
-fn organism(growth: u32, respiration: u32) -> GrowthRates {
-    GrowthRates {
-        growth,
-        respiration,
-    }
-}
-
 // Thousandths per day.
 fn rates() -> RateConstants {
     RateConstants {
-        aerobic: organism(2000, 200),
-        anoxic: organism(1600, 100),
-        xn1: organism(800, 50),
-        xn2: organism(1100, 50),
+        aerobic: GrowthRates::new(2000, 200),
+        anoxic: GrowthRates::new(1600, 100),
+        xn1: GrowthRates::new(800, 50),
+        xn2: GrowthRates::new(1100, 50),
         algae: AlgaeRates {
             ammonium: 2000,
             nitrate: 2000,

@@ -18,6 +18,8 @@ pub(crate) struct Walk {
     book: Book,
 }
 
+// Its calls stand in worked_example's `Day` too: a crate for both would have to promise what they print, and book of a
+// walk what a day does not.
 impl Walk {
     pub(crate) fn start() -> std::result::Result<Walk, Refusal> {
         let set = published_set()?;
@@ -85,17 +87,10 @@ impl Walk {
     ) -> Result<Walk> {
         let set = self.set;
         let before = self.river;
-        let temperatures = Temperatures {
-            xh: warmth,
-            xn1: warmth,
-            xn2: warmth,
-            algae: warmth,
-            hydrolysis: warmth,
-        };
         let given = Conditions {
             seconds,
             light,
-            temperatures,
+            temperatures: Temperatures::all(warmth),
         };
         let answer = step_river(set, before, given);
         println!(rt; "step {}", number_of(&answer))?;

@@ -42,6 +42,7 @@ pub(crate) struct Day {
     river: River,
 }
 
+// Its calls stand in walk's `Walk` too, with a book: a crate for both would have to promise what they print.
 impl Day {
     pub(crate) fn start(rt: &impl Print) -> Result<Day> {
         let river = River::fresh(CELLS)?;
@@ -92,17 +93,10 @@ impl Day {
     fn step(mut self, rt: &impl Print) -> Result<Day> {
         let set = self.set;
         let before = self.river;
-        let temperatures = Temperatures {
-            xh: 1000000,
-            xn1: 1000000,
-            xn2: 1000000,
-            algae: 1000000,
-            hydrolysis: 1000000,
-        };
         let given = Conditions {
             seconds: 600,
             light: 500000,
-            temperatures,
+            temperatures: Temperatures::all(1000000),
         };
         let answer = step::step_river(set, before, given);
         println!(rt; "step {}", number_of(&answer))?;

@@ -5,16 +5,8 @@ ghost use Rattle.stoichiometry.specs.Substances.{substances};
 use river::AMOUNTS;
 use std::fmt;
 use std::io::Result;
-use stoichiometry::{SUBSTANCES, Set, place};
-
-// How much of an amount is a µg: of an organic 1, of the others as many grains.
-const ORGANIC: u64 = 1;
-
-const O: u64 = Set::GRAINS_PER_MICROGRAM_O as u64;
-
-const N: u64 = Set::GRAINS_PER_MICROGRAM_N as u64;
-
-const P: u64 = Set::GRAINS_PER_MICROGRAM_P as u64;
+use stoichiometry::Microgram::{Nitrogen, Organic, Oxygen, Phosphorus};
+use stoichiometry::{Microgram, SUBSTANCES, place};
 
 // A level in µg, in ten columns as grams with three decimals, rounded down.
 #[derive(Clone, Copy)]
@@ -26,39 +18,39 @@ impl fmt::Display for Level {
     }
 }
 
-// A line: the name of the substance at a place, and its level in each cell. No such amount is below zero.
+// A line: the name of the substance at a place, and its level in each cell.
 fn write_level(
     rt: &impl Print,
     name: &str,
     amounts: &[i64; AMOUNTS],
     at: usize,
-    microgram: u64,
+    microgram: Microgram,
 ) -> Result<()>
-    requires { (at < substances) × (0 < microgram) }
+    requires { at < substances }
 {
-    let first = Level(amounts[at].unsigned_abs() / microgram);
-    let second = Level(amounts[SUBSTANCES + at].unsigned_abs() / microgram);
+    let first = Level(microgram.level(amounts[at]));
+    let second = Level(microgram.level(amounts[SUBSTANCES + at]));
     println!(rt; "{name:<6}{first}{second}")
 }
 
 // A line for each substance that has a level, each a call: of the entries of a list it would not be known that the
-// places and the units are in range. The nitrogen is in g of N, the phosphate in g of P.
+// places are in range. The nitrogen is in g of N, the phosphate in g of P.
 pub(crate) fn write_levels(rt: &impl Print, amounts: &[i64; AMOUNTS]) -> Result<()> {
     println!(rt; "g/m3      cell 1    cell 2")?;
-    write_level(rt, "SS", amounts, place::SS, ORGANIC)?;
-    write_level(rt, "SI", amounts, place::SI, ORGANIC)?;
-    write_level(rt, "NH4-N", amounts, place::NH4, N)?;
-    write_level(rt, "NO2-N", amounts, place::NO2, N)?;
-    write_level(rt, "NO3-N", amounts, place::NO3, N)?;
-    write_level(rt, "PO4-P", amounts, place::HPO4, P)?;
-    write_level(rt, "O2", amounts, place::O2, O)?;
-    write_level(rt, "XH", amounts, place::XH, ORGANIC)?;
-    write_level(rt, "XN1", amounts, place::XN1, ORGANIC)?;
-    write_level(rt, "XN2", amounts, place::XN2, ORGANIC)?;
-    write_level(rt, "XALG", amounts, place::XALG, ORGANIC)?;
-    write_level(rt, "XS", amounts, place::XS, ORGANIC)?;
-    write_level(rt, "XI", amounts, place::XI, ORGANIC)?;
-    write_level(rt, "XP", amounts, place::XP, P)
+    write_level(rt, "SS", amounts, place::SS, Organic)?;
+    write_level(rt, "SI", amounts, place::SI, Organic)?;
+    write_level(rt, "NH4-N", amounts, place::NH4, Nitrogen)?;
+    write_level(rt, "NO2-N", amounts, place::NO2, Nitrogen)?;
+    write_level(rt, "NO3-N", amounts, place::NO3, Nitrogen)?;
+    write_level(rt, "PO4-P", amounts, place::HPO4, Phosphorus)?;
+    write_level(rt, "O2", amounts, place::O2, Oxygen)?;
+    write_level(rt, "XH", amounts, place::XH, Organic)?;
+    write_level(rt, "XN1", amounts, place::XN1, Organic)?;
+    write_level(rt, "XN2", amounts, place::XN2, Organic)?;
+    write_level(rt, "XALG", amounts, place::XALG, Organic)?;
+    write_level(rt, "XS", amounts, place::XS, Organic)?;
+    write_level(rt, "XI", amounts, place::XI, Organic)?;
+    write_level(rt, "XP", amounts, place::XP, Phosphorus)
 }
 
 // The line of the letters, below the levels.

@@ -2,10 +2,8 @@
 -- No assumptions.
 use mathlib.Core.Bool.{not}
 use Rattle.std.proofs.Common.{ℕ, refl, sym, ap, ◌∙◌, arith}
-use Rattle.river.proofs.Rivers.{wrong_tested, river-cells}
+use Rattle.river.proofs.Rivers.{wrong_tested}
 use Rattle.stoichiometry.specs.Refusals.{answer_of}
-use Rattle.page.specs.Pages.{page_of}
-use Rattle.page.proofs.PageLaws.{cell_fits_lem}
 use Rattle.page.proofs.Written.{river_refused, space_refused, page_accepted, output_stays, page_written}
 use Rattle.page.proofs.write_page.Goals as goal
 
@@ -17,27 +15,25 @@ returns-then-not-fits c =
       output = sym (output_stays 4 _ _ refl);
     }
 
-pub returns-then-output-n : goal.returns-then-output-n
-returns-then-output-n c =
+pub returns-then-output-river : goal.returns-then-output-river
+returns-then-output-river c =
     let right = wrong_tested c.args.river _ c.fits.ensures.answer ∙ ap not c.if-not-fits.false in
     record {
-      answer = ap (λ (n : ℕ). answer_of n tt) (sym (space_refused c.args.river _ right (omega (arith, c.if-output-n.true))));
+      answer = ap (λ (n : ℕ). answer_of n tt) (sym (space_refused c.args.river _ right (omega (arith, c.if-output-river.true))));
       output = sym (output_stays 12 _ _ refl);
     }
 
 pub write_rows-requires : goal.write_rows-requires
 write_rows-requires c =
-    let right = wrong_tested c.args.river _ c.fits.ensures.answer ∙ ap not c.if-not-fits.false in
     record {
-      room = ((river-cells c.args.river right).1, omega (arith, c.if-output-n.false));
-      cells_fit = cell_fits_lem c.args.river right;
+      river = wrong_tested c.args.river _ c.fits.ensures.answer ∙ ap not c.if-not-fits.false;
+      room = omega (arith, c.if-output-river.false);
     }
 
 pub returns : goal.returns
-unfolding page_of
 returns c =
     let right = wrong_tested c.args.river _ c.fits.ensures.answer ∙ ap not c.if-not-fits.false in
     record {
-      answer = ap (λ (n : ℕ). answer_of n tt) (sym (page_accepted c.args.river _ right (omega (arith, c.if-output-n.false))));
+      answer = ap (λ (n : ℕ). answer_of n tt) (sym (page_accepted c.args.river _ right (omega (arith, c.if-output-river.false))));
       output = c.write_rows.ensures ∙ sym (page_written c.args.river c.args.output.now);
     }

@@ -1,8 +1,9 @@
 -- What the inner functions of the writer hand to each other. Laws: proofs/FigureLaws.antt. No assumptions.
-use Rattle.std.specs.Prelude.{ℕ, zero, suc, ◌+◌, ◌/◌, ◌%◌, ◌≤◌, ◌<◌, List, [], ◌∷◌, ◌≡◌, ℤ, pos, nat_abs, length, get_or, ◌≤ℤ◌}
-use Rattle.stoichiometry.specs.Substances.{substances, most_grains, o2, place}
+use Rattle.std.specs.Prelude.{ℕ, ◌+◌, ◌/◌, ◌%◌, ◌≤◌, ◌<◌, List, [], ◌∷◌, ◌++◌, ◌≡◌, ℤ, nat_abs, length, get_or}
+use Rattle.stoichiometry.specs.Substances.{most_grains, o2, place}
 use Rattle.stoichiometry.specs.Levels.{most_level}
 use Rattle.stoichiometry.specs.Totals.{amount_at}
+use Rattle.river.specs.Rivers.{most_cells}
 use Rattle.text.specs.Blocks.{blocks}
 use Rattle.text.specs.Decimals.{glyph}
 use Rattle.page.specs.Pages.{grams, levels_at}
@@ -11,35 +12,30 @@ use Rattle.page.specs.Pages.{grams, levels_at}
 abbrev pub levels_text : List ℕ → ℕ → List ℕ
 levels_text levels count = blocks count (λ i. grams (get_or levels i 0))
 
+-- A number below 100 in two columns: with both digits, and with a blank for a first digit of 0.
+abbrev pub pair_of : ℕ → List ℕ
+pair_of n = (48 + n / 10) ∷ (48 + n % 10) ∷ []
+
+abbrev pub justified_of : ℕ → List ℕ
+justified_of n = glyph (n / 10) 32 ∷ (48 + n % 10) ∷ []
+
+-- The whole grams of a level in bounds, right-justified in four columns.
+abbrev pub whole_of : ℕ → List ℕ
+whole_of grams = glyph (grams / 1000) 32 ∷ glyph (grams / 100) 32 ∷ glyph (grams / 10) 32 ∷ (48 + grams % 10) ∷ []
+
 -- The last eight columns of a level: all that a level in bounds takes.
 unfoldable pub figures_of : ℕ → List ℕ
 figures_of level =
     let n = level / 1000 in
-    let whole = n / 1000 in
-    glyph (whole / 1000) 32 ∷ glyph (whole / 100) 32 ∷ glyph (whole / 10) 32 ∷ (48 + whole % 10)
-    ∷ 46 ∷ (48 + n / 100 % 10) ∷ (48 + n / 10 % 10) ∷ (48 + n % 10) ∷ []
-
--- What a digit is added to: a zero, or a blank where nothing is left of the number.
-unfoldable pub mark_at : ℕ → ℕ
-mark_at zero = 32
-mark_at (suc r) = 48
-
--- The eight columns of a level of so many whole grams, where its digits are 0.
-abbrev pub marks_of : ℕ → List ℕ
-marks_of whole =
-    mark_at (whole / 1000) ∷ mark_at (whole / 100) ∷ mark_at (whole / 10) ∷ 48 ∷ 46 ∷ 48 ∷ 48 ∷ 48 ∷ []
-
--- An amount x of the substance at place s is not negative and its level, by what a µg is, is in bounds.
-abbrev pub LevelFits : ℤ → ℕ → ℕ → Type 0
-LevelFits x s microgram =
-    (s < substances) × (0 < microgram) × (pos 0 ≤ℤ x) × (nat_abs x / microgram ≤ most_level)
+    whole_of (n / 1000) ++ (46 ∷ (48 + n / 100 % 10) ∷ (48 + n / 10 % 10) ∷ (48 + n % 10) ∷ [])
 
 -- Six levels, in bounds.
 abbrev pub LevelsWithin : List ℕ → Type 0
 LevelsWithin levels = (length levels ≡ 6) × ((i : ℕ) → get_or levels i 0 ≤ most_level)
 
--- The amounts of cell c up to O2 are not negative and in the bounds of grains, and its levels are in bounds.
-abbrev pub CellFits : List ℤ → ℕ → Type 0
-CellFits amounts c =
-    ((s : ℕ) → s ≤ place o2 → (pos 0 ≤ℤ amount_at amounts c s) × (nat_abs (amount_at amounts c s) ≤ most_grains))
-    × LevelsWithin (levels_at amounts c)
+-- Cell c is one of those that a river has room for, its amounts up to O2 are in the bounds of grains, and its levels are
+-- in bounds.
+pub record CellFits (amounts : List ℤ) (c : ℕ) : Type 0 where
+  pub cell : c < most_cells
+  pub small : (s : ℕ) → s ≤ place o2 → nat_abs (amount_at amounts c s) ≤ most_grains
+  pub levels : LevelsWithin (levels_at amounts c)

@@ -8,7 +8,7 @@ use Rattle.kinetics.proofs.ConditionLaws.{conditions_fit}
 use Rattle.step.proofs.StepNumber.{Passed, rows_known, rows_unknown, seven_holds, seven_passed, set_refused, river_refused}
 use Rattle.step.proofs.StepNumber.{conditions_refused, batches_refused, amounts_refused, step-accepted}
 use Rattle.step.proofs.step_river.Goals as goal
-use Rattle.step.proofs.step_river.Goals.{Else-conditions_wrong}
+use Rattle.step.proofs.step_river.Goals.{Else-are_wrong}
 
 -- Refused by the set.
 pub returns-in_err-rows : goal.returns-in_err-rows
@@ -27,21 +27,21 @@ returns-then-not-fits c =
     record { answer = sym (river_refused a.set a.river a.conditions accepted wrong) }
 
 -- Refused by the conditions.
-pub returns-then-conditions_wrong : goal.returns-then-conditions_wrong
-returns-then-conditions_wrong c =
+pub returns-then-are_wrong : goal.returns-then-are_wrong
+returns-then-are_wrong c =
     let a = c.args in
     let accepted = (rows_known a.set _ c.in_ok-rows.ensures.answer).0 in
     let right = wrong_tested a.river true c.if-not-fits.ensures.answer in
-    let wrong = sym c.if-conditions_wrong.ensures.answer in
+    let wrong = sym c.if-are_wrong.ensures.answer in
     record { answer = sym (conditions_refused a.set a.river a.conditions accepted right wrong) }
 
 -- All that was given passed its checks.
-passed : (c : Else-conditions_wrong) → Passed c.args.set c.args.river c.args.conditions
+passed : (c : Else-are_wrong) → Passed c.args.set c.args.river c.args.conditions
 passed c =
     record {
       accepted = (rows_known c.args.set _ c.in_ok-rows.ensures.answer).0;
       four = wrong_tested c.args.river true c.if-not-fits.ensures.answer;
-      six = sym c.if-conditions_wrong.ensures.answer;
+      six = sym c.if-are_wrong.ensures.answer;
     }
 
 pub step_cells-requires : goal.step_cells-requires

@@ -1,10 +1,13 @@
--- What the inner functions of the writer hand to each other: that columns are still blank, digits by twos and fours,
--- and bytes as one number. Laws: proofs/DecimalLaws.antt, proofs/FourLaws.antt. No assumptions.
-use Rattle.std.specs.Prelude.{ℕ, ◌+◌, ◌*◌, ◌/◌, ◌%◌, ◌<◌, List, [], ◌∷◌, ◌++◌, ◌≡◌, get_or}
+-- What the inner functions of the writer hand to each other: digits written over the last columns of a text, digits by
+-- twos and fours, and bytes as one number. Laws: proofs/DigitLaws.antt, proofs/FourLaws.antt. No assumptions.
+use Rattle.std.specs.Prelude.{ℕ, zero, suc, ◌+◌, ◌*◌, ◌/◌, ◌%◌, List, [], ◌∷◌, ◌++◌, take}
 
--- The w columns of l from `at` on hold blanks.
-abbrev pub Blank : List ℕ → ℕ → ℕ → Type 0
-Blank l at w = (j : ℕ) → j < w → get_or l (at + j) 0 ≡ 32
+-- The first i columns of l with the digits of r over the last of them and the mark against the first digit; the columns
+-- before the mark stay.
+unfoldable pub digits_over : ℕ → List ℕ → ℕ → ℕ → List ℕ
+digits_over zero l mark r = []
+digits_over (suc i) l mark zero = take i l ++ (mark ∷ [])
+digits_over (suc i) l mark (suc r) = digits_over i l mark (suc r / 10) ++ ((48 + suc r % 10) ∷ [])
 
 -- The last two digits of a number, and its last four.
 abbrev pub pair : ℕ → List ℕ

@@ -4,11 +4,21 @@ use lib.Ieee.{Float}
 use mir.Syntax.{w64}
 use mir.Facts.{Fits-below, to_z_pos}
 use Rattle.numeric.proofs.Bounds.{fits_abs}
+use lib.Dec.{lit≤}
+use Rattle.stoichiometry.specs.declared.levels.Microgram.{Microgram}
+use Rattle.stoichiometry.specs.declared.levels.Microgram.TheVariants.{Organic, Oxygen, Nitrogen, Phosphorus}
+use Rattle.stoichiometry.specs.Levels.{in_microgram}
 use Rattle.stoichiometry.specs.Substances.{grains_per_microgram_n}
 use Rattle.probe.proofs.FrameLaws.{grains_bound}
 use Rattle.probe.specs.Readings.{reading_fits, scaled_floor}
 use Rattle.probe.specs.declared.readings.Scale.{Scale}
 use Rattle.probe.proofs.frames.grains.Goals as goal
+
+microgram_bound : (m : Microgram) → in_microgram m ≤ grains_per_microgram_n
+microgram_bound Organic = lit≤ tt
+microgram_bound Oxygen = lit≤ tt
+microgram_bound Nitrogen = lit≤ tt
+microgram_bound Phosphorus = lit≤ tt
 
 small : (x : Float) (scale : Scale) (n w : ℕ) → reading_fits x ≡ true → w ≤ grains_per_microgram_n
     → n ≡ scaled_floor x scale.numerator scale.denominator → n * w ≤ 114278400000000000
@@ -16,16 +26,16 @@ small x scale n w fits W e = rw e (grains_bound x _ _ w fits scale.in_range.1 sc
 
 pub overflow_mul-result : goal.overflow_mul-result
 overflow_mul-result c =
-    let bound = small c.args.x c.args.scale _ _ (sym c.reading_fits.ensures ∙ c.if-reading_fits.true) c.requires c.scaled_floor.ensures in
-    Fits-below {n = 114278400000000001} tt (omega (arith, bound))
+    let bound = small c.args.x c.args.scale _ _ (sym c.reading_fits.ensures ∙ c.if-reading_fits.true) (microgram_bound c.args.microgram) c.scaled_floor.ensures in
+    rw c.grains.ensures.answer (Fits-below {n = 114278400000000001} tt (omega (arith, bound)))
 
 pub overflow_cast-result : goal.overflow_cast-result
 overflow_cast-result c =
-    let bound = small c.args.x c.args.scale _ _ (sym c.reading_fits.ensures ∙ c.if-reading_fits.true) c.requires c.scaled_floor.ensures in
-    fits_abs _ (omega (arith, bound))
+    let bound = small c.args.x c.args.scale _ _ (sym c.reading_fits.ensures ∙ c.if-reading_fits.true) (microgram_bound c.args.microgram) c.scaled_floor.ensures in
+    rw c.grains.ensures.answer (fits_abs _ (omega (arith, bound)))
 
 pub returns-then-reading_fits : goal.returns-then-reading_fits
 returns-then-reading_fits c =
     let fits = sym c.reading_fits.ensures ∙ c.if-reading_fits.true in
-    let bound = small c.args.x c.args.scale _ _ fits c.requires c.scaled_floor.ensures in
-    rw (fits, sym c.scaled_floor.ensures) (ap Ok (to_z_pos w64 (omega (arith, bound))))
+    let bound = small c.args.x c.args.scale _ _ fits (microgram_bound c.args.microgram) c.scaled_floor.ensures in
+    rw (fits, c.grains.ensures.answer, sym c.scaled_floor.ensures) (ap Ok (to_z_pos w64 (omega (arith, bound))))

@@ -1,6 +1,10 @@
--- `front_right` meets its contract: its six tests are those of the six bytes. No assumptions.
-use Rattle.record_reading.proofs.LineReading.{front_read}
+-- `front_right` meets its contract: the six bytes are those of the front. No assumptions.
+use Rattle.std.proofs.Common.{◌∙◌}
+use Rattle.record_reading.proofs.LineReading.{front_compared}
 use Rattle.record_reading.proofs.reading.front_right.Goals as goal
 
 pub returns : goal.returns
-returns c = let bytes = front_read c.args.line.now c.args.cell c.args.place c.requires in cc
+returns c =
+    c.eq.ensures
+    ∙ front_compared c.args.line.now _ _ c.args.cell c.args.place c.requires c.two_columns.ensures.columns
+    c.two_columns-2.ensures.columns

@@ -4,7 +4,6 @@ use lib.Signed.{yes_non_neg}
 use mir.Facts.{Fits-below}
 use Rattle.numeric.proofs.CheckLaws.{every-none, every_more, every_fails}
 use Rattle.numeric.proofs.Filling.{run_none}
-use Rattle.numeric.proofs.Machine.{result_is}
 use Rattle.stoichiometry.specs.Substances.{substances}
 use Rattle.record.specs.Lines.{lines}
 use Rattle.record_reading.specs.Reading.{number_at}
@@ -20,18 +19,14 @@ loop-k-init c = (every-none _, run_none _ _ _, run_none _ _ _)
 pub returns-in_err-value-clause-value : goal.returns-in_err-value-clause-value
 returns-in_err-value-clause-value c =
     let k = c.loop-k.k in
-    let found = value_found c.args.text.now c.args.c k c.lowest_on.result c.highest_on.result _ _
-    (result_is _ c.lowest_on.ensures c.lowest_on.type_inv) (result_is _ c.highest_on.ensures c.highest_on.type_inv)
-    (omega arith) c.line_value.ensures in
+    let found = value_found c.args.text.now c.args.c k _ _ (omega arith) c.line_value.ensures in
     ap is_some c.from_residual.ensures
     ∙ sym (every_fails lines _ _ c.loop-k-test.true (ap is_some (sym found ∙ c.in_err-value.was)))
 
 pub overflow_cast-carries : goal.overflow_cast-carries
 overflow_cast-carries c =
     let k = c.loop-k.k in
-    let found = value_found c.args.text.now c.args.c k c.lowest_on.result c.highest_on.result _ _
-    (result_is _ c.lowest_on.ensures c.lowest_on.type_inv) (result_is _ c.highest_on.ensures c.highest_on.type_inv)
-    (omega arith) c.line_value.ensures in
+    let found = value_found c.args.text.now c.args.c k _ _ (omega arith) c.line_value.ensures in
     let some = sym found ∙ c.in_ok-value.was in
     let range = carry_range c.args.text.now c.args.c k c.if-k-lt-SUBSTANCES.false (value_some _ _ k _ some) in
     rw (value_kept _ _ k _ some) (yes_non_neg range.0, Fits-below {n = 1000000} tt (omega (arith, range.1)))
@@ -39,9 +34,7 @@ overflow_cast-carries c =
 pub loop-k-preserved : goal.loop-k-preserved
 loop-k-preserved c =
     let k = c.loop-k.k in
-    let found = value_found c.args.text.now c.args.c k c.lowest_on.result c.highest_on.result _ _
-    (result_is _ c.lowest_on.ensures c.lowest_on.type_inv) (result_is _ c.highest_on.ensures c.highest_on.type_inv)
-    (omega arith) c.line_value.ensures in
+    let found = value_found c.args.text.now c.args.c k _ _ (omega arith) c.line_value.ensures in
     let some = sym found ∙ c.in_ok-value.was in
     let kept = value_kept c.args.text.now c.args.c k c.in_ok-value.value some in
     let more = every_more k _ c.loop-k.invariant.0 (value_some c.args.text.now c.args.c k c.in_ok-value.value some) in

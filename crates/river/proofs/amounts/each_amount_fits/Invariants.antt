@@ -3,4 +3,4 @@ use Rattle.river.specs.Inner.Runs.{RunFits}
 use Rattle.river.proofs.amounts.each_amount_fits.Given as goal
 
 abbrev pub invariant-loop-s : goal.invariant-loop-s
-invariant-loop-s l = RunFits l.amounts l.start l.first l.s
+invariant-loop-s l = RunFits l.cell l.first l.s

@@ -1,5 +1,5 @@
 -- `amounts::run_fits` meets its contract: what fits the bounds that all have covers each amount. No assumptions.
-use Rattle.std.proofs.Common.{◌≡◌, sym, ◌∙◌}
+use Rattle.std.proofs.Common.{◌≡◌, sym, ◌∙◌, arith}
 use borrow.Author.Rules.{sfits_of}
 use mir.Facts.{to_z-of_z}
 use mir.Syntax.{w64}
@@ -11,5 +11,5 @@ pub returns : goal.returns
 returns c e =
     let bits = c.joined.result in
     let same : kept bits ≡ bits = to_z-of_z {w = w64} {z = bits} (sfits_of c.joined.type_inv) in
-    run_covered c.args.amounts.now c.args.start c.args.first c.args.end bits c.requires.places.1 c.requires.same_bounds
-    c.joined.ensures (rw same at (sym c.amount_fits.ensures ∙ e))
+    run_covered c.args.cell.now c.args.first c.args.end bits c.requires.places.0 (omega (arith, c.requires.places.1, c.told-cell))
+    c.requires.same_bounds c.joined.ensures (rw same at (sym c.amount_fits.ensures.answer ∙ e))

@@ -1,33 +1,27 @@
--- `write_pairs` meets its contract: too few columns, two digits more, or the last ones. No assumptions.
-use Rattle.std.proofs.Common.{◌≤◌, ◌+◌, ◌-◌, ap, ◌∙◌, arith, refl, length}
-use Rattle.text.specs.Inner.Stages.{pair}
-use Rattle.text.proofs.DigitLaws.{blank_put, first_written, pair_first, pair_last}
-use Rattle.text.proofs.WriteLaws.{mid_written, put-length}
+-- `write_pairs` meets its contract: two digits more and the last, too few columns for four, or four digits. No
+-- assumptions.
+use Rattle.std.proofs.Common.{◌/◌, ◌∙◌, arith}
+use Rattle.text.proofs.DigitLaws.{pair_joined, pair_last}
 use Rattle.text.proofs.digits.write_pairs.Goals as goal
 
-pub returns-then-i-lt2 : goal.returns-then-i-lt2
-returns-then-i-lt2 c =
-    let (left, blank, within, small) = c.loop-rest.invariant in
-    first_written c.args.out.now c.loop-rest.out _ c.loop-rest.i _ _ _ _ within (rw c.from.ensures at c.write_singles.ensures) left
+pub returns-then-hundreds-lt10 : goal.returns-then-hundreds-lt10
+returns-then-hundreds-lt10 c =
+    let (front, last, long) = c.in-Some.ensures.cases in
+    pair_joined c.args.out.now _ _ c.args.mark c.args.n _ c.write_last-then-hundreds-lt10.ensures _ front long
+    c.if-n-lt10.false (omega arith) (c.pair.ensures ∙ pair_last c.args.n)
 
-pub loop-rest-preserved : goal.loop-rest-preserved
-loop-rest-preserved c =
-    let (left, blank, within, small) = c.loop-rest.invariant in
-    let l = c.loop-rest.out in
-    let i = c.loop-rest.i in
-    let r = c.loop-rest.rest in
-    let enough = c.if-i-lt2.false in
-    let more = c.loop-rest-test.true in
-    let written = mid_written l _ (pair r) (i - 2) _ 2 refl (omega arith)
-    (c.copy_from_slice.ensures.after ∙ c.pair.ensures ∙ pair_last r) in
-    let room : i - 2 + 2 ≤ length l = omega arith in (
-      pair_first l _ i c.args.mark r within enough (omega arith) written ∙ left,
-      blank_put l _ 0 i (i - 2) (i - 2) (pair r) blank (omega arith) (omega arith) (omega arith) written,
-      omega (arith, put-length l (i - 2) (pair r) room, ap length written),
-      omega arith,
-    )
+pub returns-in_default-split_last_chunk_mut : goal.returns-in_default-split_last_chunk_mut
+returns-in_default-split_last_chunk_mut c =
+    let (front, last, long) = c.in-Some.ensures.cases in
+    pair_joined c.args.out.now _ _ c.args.mark c.args.n _
+    (rw c.from-in_default-split_last_chunk_mut.ensures at c.write_singles-in_default-split_last_chunk_mut.ensures)
+    _ front long c.if-n-lt10.false (omega arith) (c.pair.ensures ∙ pair_last c.args.n)
 
 pub returns : goal.returns
 returns c =
-    let (left, blank, within, small) = c.loop-rest.invariant in
-    first_written c.args.out.now c.loop-rest.out _ c.loop-rest.i _ _ _ _ within c.write_last.ensures left
+    let (front, last, long) = c.in-Some.ensures.cases in
+    let (front2, last2, long2) = c.in-Some-split_last_chunk_mut.ensures.cases in
+    pair_joined c.args.out.now _ _ c.args.mark c.args.n _
+    (pair_joined _ _ _ c.args.mark (c.args.n / 100) 0 c.write_mark.ensures _ front2 long2
+    c.if-hundreds-lt10.false (omega arith) c.pair-2.ensures)
+    _ front long c.if-n-lt10.false (omega arith) (c.pair.ensures ∙ pair_last c.args.n)

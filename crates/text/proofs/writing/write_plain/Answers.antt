@@ -1,32 +1,20 @@
--- `write_plain` meets its contract: blanks, then a lone zero or digits, with the mark. No assumptions.
-use Rattle.std.proofs.Common.{◌≡◌, ◌-◌, ℕ, sym, ap, ap₂, ◌∙◌, arith, length, set, length-set}
-use Rattle.text.specs.Decimals.{plain}
-use Rattle.text.proofs.DecimalLaws.{blank_set}
-use Rattle.text.proofs.DigitLaws.{blank_first, blanks_filled, digits_plain, zero_first}
+-- `write_plain` meets its contract: blanks, then digits or a lone zero, with the mark. No assumptions.
+use Rattle.std.proofs.Common.{◌∙◌, arith, length}
+use Rattle.text.proofs.DigitLaws.{over-plain, zero_plain, none_plain}
 use Rattle.text.proofs.writing.write_plain.Goals as goal
 
-pub write_mark-requires : goal.write_mark-requires
-write_mark-requires c =
-    let l = c.write_blanks.new.out in
-    let long = c.write_blanks.auto.out in
-    let blank = blanks_filled l _ c.write_blanks.ensures in
-    let stored = set l (length l - 1) 48 in
-    let kept : length stored ≡ length l = length-set l (length l - 1) 48 in
-    blank_first stored (length l - 1) (length l - 1)
-    (blank_set l 0 (length l) (length l - 1) (length l - 1) 48 blank (omega arith) (omega arith)) (omega arith)
-
-pub returns-then-n-eq0 : goal.returns-then-n-eq0
-returns-then-n-eq0 c =
-    let long = c.write_blanks.auto.out in
-    zero_first c.write_blanks.new.out _ c.args.mark (omega arith) c.write_mark.ensures
-    ∙ ap₂ (λ (w n : ℕ). plain w c.args.mark n) long (sym c.if-n-eq0.true)
-
-pub write_columns-requires : goal.write_columns-requires
-write_columns-requires c = blanks_filled c.write_blanks.new.out _ c.write_blanks.ensures
-
-pub returns : goal.returns
-returns c =
-    let long = c.write_blanks.auto.out in
+pub returns-then-n-gt0 : goal.returns-then-n-gt0
+returns-then-n-gt0 c =
     c.write_columns.ensures
-    ∙ digits_plain (length c.write_blanks.new.out) c.args.mark c.args.n (omega arith) c.if-n-eq0.false
-    ∙ ap (λ (w : ℕ). plain w c.args.mark c.args.n) long
+    ∙ over-plain c.write_blanks.new.out (length c.args.out.now) c.args.mark c.args.n c.write_blanks.ensures c.if-n-gt0.true
+
+pub returns-in-Some : goal.returns-in-Some
+returns-in-Some c =
+    let (whole, long) = c.in-Some.ensures.cases in
+    zero_plain c.write_blanks.new.out (length c.args.out.now) c.args.mark c.args.n c.write_blanks.ensures _ _ _ whole long
+    (omega arith) c.write_mark.ensures
+
+pub returns-in_default : goal.returns-in_default
+returns-in_default c =
+    none_plain c.write_blanks.new.out (length c.args.out.now) c.args.mark c.args.n c.write_blanks.ensures
+    c.in_default.ensures.cases
