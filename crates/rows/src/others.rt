@@ -1,13 +1,14 @@
 // The changes of a row's substances that are no organics, without a division.
 ghost use Rattle.std.specs.Prelude.{◌≡◌, ◌≤◌, nat_abs};
-ghost use Rattle.rows.specs.Inner.Code.{Thousandths, InReleased, InFurther, InKind, form_of, turned_by, reduced_by, kind_of};
+ghost use Rattle.rows.specs.Inner.Code.{Thousandths, InReleased, InFurther, InKind, kind_of};
 ghost use Rattle.rows.specs.Inner.Code.{released_by, most_fifteenth, fifteenth_of, others_of, others_from};
 
 use crate::released::{Released, released_by};
 use stoichiometry::{Acceptor, Fractions, Further, Nitrogen};
 
 // What a row does besides its closure: nitrogen as nitrate, as nitrite (0 or 1); NH4 oxidised to NO2, NO2 to NO3 (m is
-// 22,320 times that); HPO4 adsorbed, grains; the acceptor: NO3 to NO2, NO2 to N2, NO3 to N2 (0 or 1).
+// 22,320 times that); HPO4 adsorbed, grains; the acceptor: NO3 to NO2, NO2 to N2, NO3 to N2 (0 or 1). Numbers and no enums,
+// so that each change below is one sum for all processes; of the enums each would be a match of its own.
 #[derive(Clone, Copy)]
 pub(crate) struct Kind {
     pub nitrate: i64,
@@ -19,16 +20,6 @@ pub(crate) struct Kind {
     pub no2n2: i64,
     pub no3n2: i64,
 }
-
-// Parts of a `Kind`, in its order: the nitrogen's form, what is turned over besides, the acceptor.
-#[derive(Clone, Copy)]
-pub(crate) struct Form(pub i64, pub i64);
-
-#[derive(Clone, Copy)]
-pub(crate) struct Turned(pub i64, pub i64, pub i64);
-
-#[derive(Clone, Copy)]
-pub(crate) struct Reduced(pub i64, pub i64, pub i64);
 
 // The changes of the substances that are no organics, grains, and E.
 #[derive(Clone, Copy)]
@@ -46,55 +37,37 @@ pub(crate) struct Others {
     pub e: i64,
 }
 
-// The nitrogen's form as numbers.
-fn form_of(n: Nitrogen) -> Form
-    ensures { result ≡ form_of n }
-{
-    match n {
-        Nitrogen::Nh4 => Form(0, 0),
-        Nitrogen::No3 => Form(1, 0),
-        Nitrogen::No2 => Form(0, 1),
-    }
-}
-
-fn turned_by(f: Further) -> Turned
-    ensures { result ≡ turned_by f }
-{
-    match f {
-        Further::Nothing => Turned(0, 0, 0),
-        Further::Nh4ToNo2(k) => Turned(k, 0, 0),
-        Further::No2ToNo3(k) => Turned(0, k, 0),
-        Further::Adsorbed(x) => Turned(0, 0, x),
-    }
-}
-
-fn reduced_by(a: Acceptor) -> Reduced
-    ensures { result ≡ reduced_by a }
-{
-    match a {
-        Acceptor::Oxygen => Reduced(0, 0, 0),
-        Acceptor::No3ToNo2 => Reduced(1, 0, 0),
-        Acceptor::No2ToN2 => Reduced(0, 1, 0),
-        Acceptor::No3ToN2 => Reduced(0, 0, 1),
-    }
-}
-
-// All of them. Where the three are constants, a compiler drops the products with 0.
+// The nitrogen's form, what is turned over besides and the acceptor as numbers. Where the three are constants, a compiler
+// drops the products with 0.
 fn kind_of(n: Nitrogen, f: Further, a: Acceptor) -> Kind
     ensures { result ≡ kind_of n f a }
 {
-    let form = form_of(n);
-    let turned = turned_by(f);
-    let reduced = reduced_by(a);
+    let (nitrate, nitrite) = match n {
+        Nitrogen::Nh4 => (0, 0),
+        Nitrogen::No3 => (1, 0),
+        Nitrogen::No2 => (0, 1),
+    };
+    let (nh4no2, no2no3, adsorbed) = match f {
+        Further::Nothing => (0, 0, 0),
+        Further::Nh4ToNo2(k) => (k, 0, 0),
+        Further::No2ToNo3(k) => (0, k, 0),
+        Further::Adsorbed(x) => (0, 0, x),
+    };
+    let (no3no2, no2n2, no3n2) = match a {
+        Acceptor::Oxygen => (0, 0, 0),
+        Acceptor::No3ToNo2 => (1, 0, 0),
+        Acceptor::No2ToN2 => (0, 1, 0),
+        Acceptor::No3ToN2 => (0, 0, 1),
+    };
     Kind {
-        nitrate: form.0,
-        nitrite: form.1,
-        nh4no2: turned.0,
-        no2no3: turned.1,
-        adsorbed: turned.2,
-        no3no2: reduced.0,
-        no2n2: reduced.1,
-        no3n2: reduced.2,
+        nitrate,
+        nitrite,
+        nh4no2,
+        no2no3,
+        adsorbed,
+        no3no2,
+        no2n2,
+        no3n2,
     }
 }
 

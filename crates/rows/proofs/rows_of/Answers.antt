@@ -22,11 +22,11 @@ returns-then-figures_wrong-clause-answer c =
     let wrong = sym c.figures_wrong.ensures.answer ∙ c.if-figures_wrong.true in
     sym (rows_refused c.args.set 1 (number_two c.args.set right wrong))
 
-pub fill_rows-requires : goal.fill_rows-requires
-fill_rows-requires c =
+pub invariant_of-ranged : goal.invariant_of-ranged
+invariant_of-ranged c =
     let right = sym c.fractions_wrong.ensures.answer ∙ c.if-fractions_wrong.false in
     let in_range = sym c.figures_wrong.ensures.answer ∙ c.if-figures_wrong.false in
-    ranged c.args.set right in_range
+    record { ranged = ranged c.args.set right in_range }
 
 -- By 3: some process has not what is asked of it.
 pub returns-then-rows_wrong-clause-answer : goal.returns-then-rows_wrong-clause-answer
@@ -34,7 +34,7 @@ returns-then-rows_wrong-clause-answer c =
     let set = c.args.set in
     let right = sym c.fractions_wrong.ensures.answer ∙ c.if-fractions_wrong.false in
     let in_range = sym c.figures_wrong.ensures.answer ∙ c.if-figures_wrong.false in
-    let tested = c.rows_wrong.ensures set ∙ wrong_of_made set c.fill_rows.ensures.entries_after c.fill_rows.ensures.oxygen_after in
+    let tested = c.rows_wrong.ensures ∙ wrong_of_made set c.fill.ensures.entries_after c.fill.ensures.oxygen_after in
     sym (rows_refused set 2 (number_three set right in_range (sym tested ∙ c.if-rows_wrong.true)))
 
 -- Accepted.
@@ -43,15 +43,15 @@ returns-clause-answer c =
     let set = c.args.set in
     let right = sym c.fractions_wrong.ensures.answer ∙ c.if-fractions_wrong.false in
     let in_range = sym c.figures_wrong.ensures.answer ∙ c.if-figures_wrong.false in
-    let tested = c.rows_wrong.ensures set ∙ wrong_of_made set c.fill_rows.ensures.entries_after c.fill_rows.ensures.oxygen_after in
+    let tested = c.rows_wrong.ensures ∙ wrong_of_made set c.fill.ensures.entries_after c.fill.ensures.oxygen_after in
     let accepted = rows_accepted set (number_zero set right in_range (sym tested ∙ c.if-rows_wrong.false)) in
-    (λ i. Ok (record { entries = c.fill_rows.ensures.entries_after i })) ∙ sym accepted
+    (λ i. Ok (record { entries = c.fill.ensures.entries_after i })) ∙ sym accepted
 
 pub returns-clause-bounded : goal.returns-clause-bounded
 returns-clause-bounded c =
     let right = sym c.fractions_wrong.ensures.answer ∙ c.if-fractions_wrong.false in
     let in_range = sym c.figures_wrong.ensures.answer ∙ c.if-figures_wrong.false in
-    rw c.fill_rows.ensures.entries_after (rows_bound c.args.set right in_range)
+    rw c.fill.ensures.entries_after (rows_bound c.args.set right in_range)
 
 pub returns-clause-zeros : goal.returns-clause-zeros
-returns-clause-zeros c = rw c.fill_rows.ensures.entries_after (rows_none c.args.set)
+returns-clause-zeros c = rw c.fill.ensures.entries_after (rows_none c.args.set)

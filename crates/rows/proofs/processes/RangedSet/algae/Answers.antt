@@ -1,4 +1,4 @@
--- `algae` meets its contract: 11 to 14, each with the organic changes that it is called with; each row is stored
+-- `RangedSet::algae` meets its contract: 11 to 14, each with the organic changes that it is called with; each row is stored
 -- after the one before. No assumptions.
 use Rattle.std.proofs.Common.{◌*◌, ◌-◌, ◌≤◌, refl, arith}
 use borrow.Author.Rules.{sfits_of}
@@ -10,7 +10,7 @@ use Rattle.rows.specs.Inner.Code.{Ranged}
 use Rattle.rows.proofs.Ranges.{nothing_small}
 use Rattle.rows.proofs.RowEntries.{same_one, same_two, same_three}
 use Rattle.rows.proofs.Storing.{amount-is, figure_is, none_stored, one_more}
-use Rattle.rows.proofs.processes.algae.Goals as goal
+use Rattle.rows.proofs.processes.RangedSet.algae.Goals as goal
 
 -- What a death makes of XS and of XI.
 made_le : (set : Set) → Ranged set → set.yields.death * (100 - set.inert.algae) ≤ 10000
@@ -20,34 +20,34 @@ lost_le : (set : Set) → Ranged set → set.yields.death * set.inert.algae ≤ 
 lost_le set g = mul-le-mul g.death g.algae
 
 pub overflow_mul-made : goal.overflow_mul-made
-overflow_mul-made c = omega (arith, made_le c.args.set.now c.requires)
+overflow_mul-made c = omega (arith, made_le c.args.self.now.set.now c.args.self.now.ranged)
 
 pub overflow_cast-made : goal.overflow_cast-made
-overflow_cast-made c = sfits_of (omega (arith, made_le c.args.set.now c.requires))
+overflow_cast-made c = sfits_of (omega (arith, made_le c.args.self.now.set.now c.args.self.now.ranged))
 
 pub overflow_mul-lost : goal.overflow_mul-lost
-overflow_mul-lost c = omega (arith, lost_le c.args.set.now c.requires)
+overflow_mul-lost c = omega (arith, lost_le c.args.self.now.set.now c.args.self.now.ranged)
 
 pub overflow_cast-lost : goal.overflow_cast-lost
-overflow_cast-lost c = sfits_of (omega (arith, lost_le c.args.set.now c.requires))
+overflow_cast-lost c = sfits_of (omega (arith, lost_le c.args.self.now.set.now c.args.self.now.ranged))
 
 pub others_of-d11-requires : goal.others_of-d11-requires
-others_of-d11-requires c = let f = c.requires.fractions in (f xalg, f xi, f xi, nothing_small)
+others_of-d11-requires c = let f = c.args.self.now.ranged.fractions in (f xalg, f xi, f xi, nothing_small)
 
 pub others_of-d12-requires : goal.others_of-d12-requires
-others_of-d12-requires c = let f = c.requires.fractions in (f xalg, f xi, f xi, nothing_small)
+others_of-d12-requires c = let f = c.args.self.now.ranged.fractions in (f xalg, f xi, f xi, nothing_small)
 
 pub others_of-d13-requires : goal.others_of-d13-requires
-others_of-d13-requires c = let f = c.requires.fractions in (f xalg, f xi, f xi, nothing_small)
+others_of-d13-requires c = let f = c.args.self.now.ranged.fractions in (f xalg, f xi, f xi, nothing_small)
 
 pub others_of-d14-requires : goal.others_of-d14-requires
-others_of-d14-requires c = let f = c.requires.fractions in (f xalg, f xs, f xi, nothing_small)
+others_of-d14-requires c = let f = c.args.self.now.ranged.fractions in (f xalg, f xs, f xi, nothing_small)
 
 pub returns : goal.returns
 unfolding process_at processes_of
 returns c =
-    let set = c.args.set.now in
-    let g = c.requires in
+    let set = c.args.self.now.set.now in
+    let g = c.args.self.now.ranged in
     let s1 = one_more set 10 0 xalg xi xi (none_stored set 10 _ _) (same_one refl) refl c.others_of-d11.ensures (c.put.ensures.entries_after, c.put.ensures.oxygen_after) in
     let s2 = one_more set 10 1 xalg xi xi s1 (same_one refl) refl c.others_of-d12.ensures (c.put-2.ensures.entries_after, c.put-2.ensures.oxygen_after) in
     let s3 = one_more set 10 2 xalg xi xi s2 (same_two refl (figure_is g.algae)) refl c.others_of-d13.ensures (c.put-3.ensures.entries_after, c.put-3.ensures.oxygen_after) in

@@ -1,4 +1,4 @@
--- `rest` meets its contract: 15 to 17, each with the organic changes that it is called with; each row is stored
+-- `RangedSet::rest` meets its contract: 15 to 17, each with the organic changes that it is called with; each row is stored
 -- after the one before. No assumptions.
 use Rattle.std.proofs.Common.{refl, rules}
 use Rattle.stoichiometry.specs.Substances.{ss, xs, xi}
@@ -6,23 +6,23 @@ use Rattle.stoichiometry.specs.Rows.{processes_of, process_at}
 use Rattle.rows.proofs.Ranges.{nothing_small}
 use Rattle.rows.proofs.RowEntries.{same_none, same_two}
 use Rattle.rows.proofs.Storing.{figure_is, none_stored, one_more}
-use Rattle.rows.proofs.processes.rest.Goals as goal
+use Rattle.rows.proofs.processes.RangedSet.rest.Goals as goal
 
 pub others_of-d15-requires : goal.others_of-d15-requires
-others_of-d15-requires c = let f = c.requires.fractions in (f xs, f ss, f xi, nothing_small)
+others_of-d15-requires c = let f = c.args.self.now.ranged.fractions in (f xs, f ss, f xi, nothing_small)
 
 pub others_of-d16-requires : goal.others_of-d16-requires
-others_of-d16-requires c = let f = c.requires.fractions in (f xi, f xi, f xi, search rules)
+others_of-d16-requires c = let f = c.args.self.now.ranged.fractions in (f xi, f xi, f xi, search rules)
 
 pub others_of-d17-requires : goal.others_of-d17-requires
-others_of-d17-requires c = let f = c.requires.fractions in (f xi, f xi, f xi, search rules)
+others_of-d17-requires c = let f = c.args.self.now.ranged.fractions in (f xi, f xi, f xi, search rules)
 
 pub returns : goal.returns
 unfolding process_at processes_of
 returns c =
-    let set = c.args.set.now in
+    let set = c.args.self.now.set.now in
     let s1 =
-    one_more set 14 0 xs ss xi (none_stored set 14 _ _) (same_two refl (figure_is c.requires.hydrolysis)) refl
+    one_more set 14 0 xs ss xi (none_stored set 14 _ _) (same_two refl (figure_is c.args.self.now.ranged.hydrolysis)) refl
     c.others_of-d15.ensures (c.put.ensures.entries_after, c.put.ensures.oxygen_after) in
     let s2 = one_more set 14 1 xi xi xi s1 same_none refl c.others_of-d16.ensures (c.put-2.ensures.entries_after, c.put-2.ensures.oxygen_after) in
     let s3 = one_more set 14 2 xi xi xi s2 same_none refl c.others_of-d17.ensures (c.put-3.ensures.entries_after, c.put-3.ensures.oxygen_after) in

@@ -1,4 +1,4 @@
--- `nitrifiers` meets its contract: 7 to 10, each with the organic changes that it is called with; each row is
+-- `RangedSet::nitrifiers` meets its contract: 7 to 10, each with the organic changes that it is called with; each row is
 -- stored after the one before. No assumptions.
 use Rattle.std.proofs.Common.{◌≤◌, refl, arith, nat_abs}
 use Rattle.numeric.proofs.Machine.{kept, kept_is, result_is}
@@ -8,39 +8,39 @@ use Rattle.stoichiometry.specs.Rows.{processes_of, process_at}
 use Rattle.rows.proofs.Ranges.{nothing_small}
 use Rattle.rows.proofs.RowEntries.{same_one, same_two}
 use Rattle.rows.proofs.Storing.{figure_is, none_stored, one_more}
-use Rattle.rows.proofs.processes.nitrifiers.Goals as goal
+use Rattle.rows.proofs.processes.RangedSet.nitrifiers.Goals as goal
 
 pub excess_of-requires : goal.excess_of-requires
-excess_of-requires c = (c.requires.xn1, (c.requires.fractions xn1).nitrogen)
+excess_of-requires c = (c.args.self.now.ranged.xn1, (c.args.self.now.ranged.fractions xn1).nitrogen)
 
 pub excess_of-requires-2 : goal.excess_of-requires-2
-excess_of-requires-2 c = (c.requires.xn2, (c.requires.fractions xn2).nitrogen)
+excess_of-requires-2 c = (c.args.self.now.ranged.xn2, (c.args.self.now.ranged.fractions xn2).nitrogen)
 
 pub others_of-d7-requires : goal.others_of-d7-requires
 others_of-d7-requires c =
-    let f = c.requires.fractions in
+    let f = c.args.self.now.ranged.fractions in
     let k7 = c.excess_of in
     let small : nat_abs (kept k7.result) ≤ 100000 = rw (kept_is _ k7.type_inv) k7.ensures.result_bound in
     (f xn1, f xi, f xi, omega arith)
 
 pub others_of-d8-requires : goal.others_of-d8-requires
-others_of-d8-requires c = let f = c.requires.fractions in (f xn1, f xi, f xi, nothing_small)
+others_of-d8-requires c = let f = c.args.self.now.ranged.fractions in (f xn1, f xi, f xi, nothing_small)
 
 pub others_of-d9-requires : goal.others_of-d9-requires
 others_of-d9-requires c =
-    let f = c.requires.fractions in
+    let f = c.args.self.now.ranged.fractions in
     let k9 = c.excess_of-2 in
     let small : nat_abs (kept k9.result) ≤ 100000 = rw (kept_is _ k9.type_inv) k9.ensures.result_bound in
     (f xn2, f xi, f xi, omega arith)
 
 pub others_of-d10-requires : goal.others_of-d10-requires
-others_of-d10-requires c = let f = c.requires.fractions in (f xn2, f xi, f xi, nothing_small)
+others_of-d10-requires c = let f = c.args.self.now.ranged.fractions in (f xn2, f xi, f xi, nothing_small)
 
 pub returns : goal.returns
 unfolding process_at processes_of
 returns c =
-    let set = c.args.set.now in
-    let g = c.requires in
+    let set = c.args.self.now.set.now in
+    let g = c.args.self.now.ranged in
     let k7 = c.excess_of in
     let k9 = c.excess_of-2 in
     let s1 =

@@ -1,12 +1,12 @@
--- `fill_rows` meets its contract: the rows of each group are stored after those of the one before. No assumptions.
+-- `RangedSet::fill` meets its contract: the rows of each group are stored after those of the one before. No assumptions.
 use Rattle.std.proofs.Common.{◌-◌, ◌∙◌, rules}
 use Rattle.stoichiometry.specs.Rows.{processes}
 use Rattle.rows.proofs.Storing.{Stored, then_stored, all_rows, all_oxygen}
-use Rattle.rows.proofs.processes.fill_rows.Goals as goal
+use Rattle.rows.proofs.processes.RangedSet.fill.Goals as goal
 
 pub returns : goal.returns
 returns c =
-    let set = c.args.set.now in
+    let set = c.args.self.now.set.now in
     let h = c.heterotrophs.ensures in
     let n = c.nitrifiers.ensures in
     let g = c.algae.ensures in
