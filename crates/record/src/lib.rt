@@ -45,12 +45,11 @@ pub fn write_record(river: River, output: &mut [u8], work: &mut [u8]) -> Result<
     if !river.fits() {
         return Err(Refusal::River);
     }
-    let n = river.cells as usize;
-    let bytes = n * Record::CELL_BYTES;
+    let bytes = river.cells as usize * Record::CELL_BYTES;
     if output.len().min(work.len()) < bytes {
         return Err(Refusal::Space);
     }
-    write_cells(output, n, &river.amounts, &river.carries);
+    write_cells(output, &river);
     copy_bytes(output, bytes, work);
     Ok(())
 }

@@ -1,11 +1,11 @@
 // Lines written into lent bytes, cell by cell.
-ghost use Rattle.std.specs.Prelude.{◌≡◌, ◌*◌, ◌≤◌, ◌<◌, length};
-ghost use Rattle.river.specs.Rivers.{most_cells};
+ghost use Rattle.std.specs.Prelude.{◌≡◌, ◌*◌, ◌≤◌, ◌<◌, false, length};
+ghost use Rattle.river.specs.Rivers.{most_cells, river_wrong};
 ghost use Rattle.record.specs.Lines.{cell_text, value_of, lines, line_bytes, cell_bytes};
 ghost use Rattle.record.specs.Inner.Stages.{Labels, labelled, cells_put};
 
 use crate::Record;
-use river::{AMOUNTS, CARRIES};
+use river::River;
 use stoichiometry::{PROCESSES, SUBSTANCES};
 use text::{two_columns, write_value};
 
@@ -36,51 +36,39 @@ fn write_line(line: &mut [u8], cell: u32, label: [u8; 2], value: i64)
 }
 
 // The value on line k of cell c, both from 0.
-fn value_at(amounts: &[i64; AMOUNTS], carries: &[u32; CARRIES], c: usize, k: usize) -> i64
+fn value_at(river: &River, c: usize, k: usize) -> i64
     requires { (c < most_cells) × (k < lines) }
-    ensures { result ≡ value_of amounts.now carries.now c k }
+    ensures { result ≡ value_of river.now.amounts river.now.carries c k }
 {
     if k < SUBSTANCES {
-        return amounts[c * SUBSTANCES + k];
+        return river.amounts[c * SUBSTANCES + k];
     }
-    i64::from(carries[c * PROCESSES + (k - SUBSTANCES)])
+    i64::from(river.carries[c * PROCESSES + (k - SUBSTANCES)])
 }
 
 // The lines of cell c, from 0, over their bytes.
-fn write_cell(
-    text: &mut [u8],
-    c: usize,
-    labels: &Labels,
-    amounts: &[i64; AMOUNTS],
-    carries: &[u32; CARRIES],
-)
+fn write_cell(text: &mut [u8], river: &River, c: usize, labels: &Labels)
     requires room { (c < most_cells) × (length text.old ≡ cell_bytes) }
     requires labels { Labels labels.now }
-    ensures { text.new ≡ cell_text lines (value_of amounts.now carries.now) c }
+    ensures { text.new ≡ cell_text lines (value_of river.now.amounts river.now.carries) c }
 {
     let cell = (c + 1) as u32;
     for k in 0..Record::LINES {
         let at = k * Record::LINE_BYTES;
         let line = &mut text[at..at + Record::LINE_BYTES];
-        write_line(line, cell, labels[k], value_at(amounts, carries, c, k));
+        write_line(line, cell, labels[k], value_at(river, c, k));
     }
 }
 
-// The lines of the first n cells. The bound of n stays a clause: a loop over the cells of the amounts by `zip` would end
-// at the shorter of both, and that it makes n turns says the same.
-pub(crate) fn write_cells(
-    out: &mut [u8],
-    n: usize,
-    amounts: &[i64; AMOUNTS],
-    carries: &[u32; CARRIES],
-)
-    requires { (n ≤ most_cells) × (n * cell_bytes ≤ length out.old) }
-    ensures { out.new ≡ cells_put out.old amounts.now carries.now n }
+// The lines of a river's cells.
+pub(crate) fn write_cells(out: &mut [u8], river: &River)
+    requires river { river_wrong river.now ≡ false }
+    requires room { river.now.cells * cell_bytes ≤ length out.old }
+    ensures { out.new ≡ cells_put out.old river.now.amounts river.now.carries river.now.cells }
 {
     let labels = line_labels();
-    for c in 0..n {
+    for c in 0..river.cells as usize {
         let at = c * Record::CELL_BYTES;
-        let text = &mut out[at..at + Record::CELL_BYTES];
-        write_cell(text, c, &labels, amounts, carries);
+        write_cell(&mut out[at..at + Record::CELL_BYTES], river, c, &labels);
     }
 }

@@ -2,7 +2,7 @@
 -- of the cells, and the work area its copy (proofs/Written.antt). No assumptions.
 use mathlib.Core.Bool.{not}
 use Rattle.std.proofs.Common.{arith, ◌≡◌, ◌*◌, ◌≤◌, ℕ, refl, sym, ap, ◌∙◌, length}
-use Rattle.river.proofs.Rivers.{wrong_tested, river-cells}
+use Rattle.river.proofs.Rivers.{wrong_tested}
 use Rattle.stoichiometry.specs.Refusals.{answer_of}
 use Rattle.record.specs.Lines.{cell_bytes, record_of}
 use Rattle.record.specs.Writing.{write_number}
@@ -33,7 +33,7 @@ returns-then-min-bytes c =
 pub write_cells-requires : goal.write_cells-requires
 write_cells-requires c =
     let right = wrong_tested c.args.river _ c.fits.ensures.answer ∙ ap not c.if-not-fits.false in
-    ((river-cells _ right).1, omega (arith, c.min.ensures, c.if-min-bytes.false))
+    record { river = right; room = omega (arith, c.min.ensures, c.if-min-bytes.false) }
 
 pub returns : goal.returns
 unfolding record_of

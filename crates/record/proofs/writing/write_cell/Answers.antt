@@ -18,7 +18,7 @@ unfolding cell_text
 loop-k-preserved c =
     let k = c.loop-k.k in
     let cell = c.args.c + 1 in
-    let value = value_of c.args.amounts.now c.args.carries.now c.args.c in
+    let value = value_of c.args.river.now.amounts c.args.river.now.carries c.args.c in
     let each = λ (i : ℕ). line-length cell (i + 1) (value i) in
     let read = kept_is c.value_at.result c.value_at.type_inv ∙ c.value_at.ensures in
     let written : c.write_line.new.line ≡ line cell (k + 1) (value k) =

@@ -1,5 +1,6 @@
 -- `write_cells` meets its contract: one cell more. No assumptions.
-use Rattle.std.proofs.Common.{◌+◌, ◌*◌, ◌≤◌, sym, arith, length}
+use Rattle.std.proofs.Common.{◌+◌, ◌*◌, ◌≤◌, sym, arith, length, length-take, length-drop}
+use Rattle.river.proofs.Rivers.{river-cells}
 use Rattle.text.specs.Blocks.{blocks}
 use Rattle.text.proofs.BlockLaws.{blocks_turn}
 use Rattle.text.proofs.WriteLaws.{put-none, mid_written}
@@ -15,8 +16,15 @@ pub loop-c-preserved : goal.loop-c-preserved
 unfolding record_text
 loop-c-preserved c =
     let n = c.loop-c.c in
-    let each = cell-length lines (value_of c.args.amounts.now c.args.carries.now) in
+    let each = cell-length lines (value_of c.args.river.now.amounts c.args.river.now.carries) in
     let put_there = mid_written c.loop-c.out _ _ (n * cell_bytes) _ cell_bytes (each n) (omega arith) c.write_cell.ensures in
     let room : n * cell_bytes + cell_bytes ≤ length c.args.out.now = omega arith in
     blocks_turn cell_bytes _ each c.args.out.now c.loop-c.out _ 0 (n * cell_bytes) n (omega arith) (omega arith)
     c.loop-c.invariant put_there
+
+pub write_cell-requires-clause-room : goal.write_cell-requires-clause-room
+write_cell-requires-clause-room c =
+    let n = c.loop-c.c in
+    let most = (river-cells _ c.requires.river).1 in
+    let room : n * cell_bytes + cell_bytes ≤ length c.loop-c.out = omega arith in
+    (omega (arith, most, c.loop-c-test.true), simp (length-take, length-drop) (omega arith))
