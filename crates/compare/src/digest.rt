@@ -34,7 +34,7 @@ impl Digest {
 
 // The number of an answer, and the digest of all that it holds besides. A number and not a `Result`, since the vectors
 // give both of every answer, a refused one too.
-#[derive(Clone, Copy, PartialEq, Eq)]
+#[derive(Clone, Copy)]
 pub(crate) struct Answer {
     pub number: u32,
     pub digest: Digest,
