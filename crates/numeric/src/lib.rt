@@ -1,5 +1,5 @@
 // Whole numbers: definitions (specs/) and laws (proofs/) that the crates above share, the conjunction of two tests, a
-// number from low to high, and the size of a number.
+// number from low to high, and the size of a number. The three calls are public, so they stay as names over the library's.
 #![tactic(auto)]
 
 ghost use Rattle.std.specs.Prelude.{◌≡◌, ◌&&◌, nat_abs};

@@ -20,7 +20,8 @@ pub const AMOUNTS: usize = River::CELLS_MOST * SUBSTANCES;
 pub const CARRIES: usize = River::CELLS_MOST * PROCESSES;
 
 // A train of cells. Amount s of cell c, both counted from 0, stands at c * SUBSTANCES + s: organics in µg, the others
-// in grains, per cubic metre. Carry p of cell c stands at c * PROCESSES + p: millionths of a batch.
+// in grains, per cubic metre. Carry p of cell c stands at c * PROCESSES + p: millionths of a batch. A count beside arrays
+// of a fixed size, since there is no heap.
 #[derive(Clone, Copy)]
 pub struct River {
     pub cells: u32,
@@ -61,7 +62,7 @@ impl River {
     }
 
     // Check 4 passes the river: it is of 1 to 8 cells, its amounts and carries are in their bounds, and beyond its last
-    // cell are zeros.
+    // cell are zeros. A test and no `Result`: reading a record refuses with 11 where it fails, the other calls with 4.
     #[tactic(auto, unfolding(crate::specs::Rivers::cells_fit))]
     pub fn fits(&self) -> bool
         ensures answer { result ≡ river_fits self.now.cells self.now.amounts self.now.carries }

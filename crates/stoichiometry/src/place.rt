@@ -1,5 +1,6 @@
 // The places of the substances in their order, counted from 0: where an amount of a cell, or an entry of a row, stands.
-// The number of a substance is one more.
+// The number of a substance is one more. Plain numbers, of which a clause asks that they are in range where they index: a
+// type with that fact would be built at each call, where nearly all are constants.
 pub const SS: usize = 0;
 
 pub const SI: usize = 1;
