@@ -91,7 +91,7 @@ pub(crate) fn published(figures: &Figures) -> Answer {
     )
 }
 
-// Fractions are lists only here, as above.
+// Fractions, inert ones too, are lists only here.
 fn with_fractions(digest: Digest, f: Fractions) -> Digest {
     digest.with_all(&[f.carbon, f.hydrogen, f.oxygen, f.nitrogen, f.phosphorus])
 }
