@@ -7,17 +7,13 @@ use crate::set::Figures;
 use crate::{frames, pages, records, set};
 use kinetics::{Conditions, Temperatures};
 use river::{AMOUNTS, Letter, River};
-use stoichiometry::{ENTRIES, Refusal, Set, number_of};
-use totals::Totals;
+use stoichiometry::{ENTRIES, Refusal, Set};
 use transport::{Aired, Flowed};
 
 // The river that a call answers becomes the river; a refused call leaves it.
 fn changed(answer: Result<River, Refusal>, river: &mut River) -> Answer {
     *river = answer.unwrap_or(*river);
-    Answer {
-        number: number_of(&answer),
-        digest: Digest::of_river(river),
-    }
+    Answer::of(&answer, Digest::of_river(river))
 }
 
 fn fresh(line: &Line, river: &mut River) -> Answer {
@@ -26,10 +22,7 @@ fn fresh(line: &Line, river: &mut River) -> Answer {
 }
 
 fn check(figures: &Figures) -> Answer {
-    Answer {
-        number: number_of(&rows::check(Set::from(figures))),
-        digest: Digest::START,
-    }
+    Answer::of(&rows::check(Set::from(figures)), Digest::START)
 }
 
 // A refused set has the digest of rows of zeros.
@@ -38,10 +31,10 @@ fn rows(figures: &Figures) -> Answer {
     let refused = rows::Rows {
         entries: [0; ENTRIES],
     };
-    Answer {
-        number: number_of(&answer),
-        digest: Digest::START.with_all(&answer.unwrap_or(refused).entries),
-    }
+    Answer::of(
+        &answer,
+        Digest::START.with_all(&answer.unwrap_or(refused).entries),
+    )
 }
 
 fn load(line: &Line, river: &mut River) -> Answer {
@@ -59,10 +52,7 @@ fn flow(line: &Line, river: &mut River) -> Answer {
     };
     let flowed = answer.unwrap_or(refused);
     *river = flowed.river;
-    Answer {
-        number: number_of(&answer),
-        digest: Digest::of_river(river).with_all(&flowed.left),
-    }
+    Answer::of(&answer, Digest::of_river(river).with_all(&flowed.left))
 }
 
 fn air(line: &Line, river: &mut River) -> Answer {
@@ -80,10 +70,7 @@ fn air(line: &Line, river: &mut River) -> Answer {
     };
     let aired = answer.unwrap_or(refused);
     *river = aired.river;
-    Answer {
-        number: number_of(&answer),
-        digest: Digest::of_river(river).with(aired.amount),
-    }
+    Answer::of(&answer, Digest::of_river(river).with(aired.amount))
 }
 
 fn conditions(line: &Line) -> Conditions {
@@ -109,42 +96,19 @@ fn step(line: &Line, figures: &Figures, river: &mut River) -> Answer {
     )
 }
 
-// What a refused call is told with.
-const NO_TOTALS: Totals = Totals {
-    carbon: 0,
-    hydrogen: 0,
-    oxygen: 0,
-    nitrogen: 0,
-    phosphorus: 0,
-    charge: 0,
-};
-
-fn of_totals(t: Totals) -> Digest {
-    Digest::START.with_all(&[
-        t.carbon,
-        t.hydrogen,
-        t.oxygen,
-        t.nitrogen,
-        t.phosphorus,
-        t.charge,
-    ])
-}
-
+// A refused cell has the digest of zeros.
 fn totals(line: &Line, figures: &Figures, river: River) -> Answer {
     let answer = totals::totals_of(Set::from(figures), river, line.figure(0));
-    Answer {
-        number: number_of(&answer),
-        digest: of_totals(answer.unwrap_or(NO_TOTALS)),
-    }
+    Answer::of(
+        &answer,
+        Digest::START.with_all(&answer.unwrap_or_default().figures()),
+    )
 }
 
 fn letter(line: &Line, river: River) -> Answer {
     let answer = river::letter_of(river, line.figure(0));
     let byte = answer.map_or(0, Letter::byte);
-    Answer {
-        number: number_of(&answer),
-        digest: Digest::START.with(i64::from(byte)),
-    }
+    Answer::of(&answer, Digest::START.with(i64::from(byte)))
 }
 
 // The text of a call that reads one: the river's record, unless it was changed.
@@ -163,6 +127,7 @@ pub(crate) fn answer_of(
     river: &mut River,
     text: Option<Text>,
 ) -> Answer {
+    // The arms take different arguments, so that a table of closures is no plainer.
     match call {
         Call::Check => check(figures),
         Call::Rows => rows(figures),

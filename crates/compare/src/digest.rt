@@ -2,6 +2,7 @@
 // p = 2^31 − 1, x mod p from 0 to p − 1 also for x below zero.
 use river::River;
 use std::fmt;
+use stoichiometry::{Refusal, number_of};
 
 const P: u64 = 2147483647;
 
@@ -33,11 +34,21 @@ impl Digest {
 }
 
 // The number of an answer, and the digest of all that it holds besides. A number and not a `Result`, since the vectors
-// give both of every answer, a refused one too.
-#[derive(Clone, Copy)]
+// give both of every answer, a refused one too; of 64 bits, since a line can say any number.
+#[derive(Clone, Copy, PartialEq, Eq)]
 pub(crate) struct Answer {
-    pub number: u32,
+    pub number: u64,
     pub digest: Digest,
+}
+
+impl Answer {
+    // What a call answered, and the digest of what it holds.
+    pub(crate) fn of<T>(answer: &Result<T, Refusal>, digest: Digest) -> Answer {
+        Answer {
+            number: u64::from(number_of(answer)),
+            digest,
+        }
+    }
 }
 
 impl fmt::Display for Answer {

@@ -3,7 +3,6 @@ use crate::digest::{Answer, Digest};
 use crate::line::Line;
 use probe::{Amounts, Frame, Oxygen};
 use std::num::f32_from_bits_with_nan;
-use stoichiometry::number_of;
 
 // Form 0 is a mass, 1 a percentage, any other a missing reading: numbers, as the vectors write them.
 fn oxygen(form: u32, bits: u32) -> Oxygen {
@@ -43,8 +42,5 @@ fn of_amounts(amounts: Amounts) -> Digest {
 // A refused frame has the digest of zeros and no amount of O2.
 pub(crate) fn frame(line: &Line) -> Answer {
     let answer = probe::amounts_of(frame_of(line), line.figure(6));
-    Answer {
-        number: number_of(&answer),
-        digest: of_amounts(answer.unwrap_or_default()),
-    }
+    Answer::of(&answer, of_amounts(answer.unwrap_or_default()))
 }

@@ -1,7 +1,6 @@
 // A line of the vectors: a letter, and decimal numbers with a blank before each.
 use crate::digest::{Answer, Digest};
 use arrayvec::ArrayVec;
-use std::fmt;
 
 // More numbers than a line has: the figures of a set. The digits of further numbers are those of the last.
 const ROOM: usize = 96;
@@ -10,36 +9,16 @@ const ROOM: usize = 96;
 // more to trust.
 #[derive(Drop)]
 pub(crate) struct Line {
-    pub letter: u8,
+    pub letter: Option<u8>,
     numbers: ArrayVec<u64, ROOM>,
     // A minus stands in the line.
     negative: bool,
 }
 
-// What a line says that its call answers: any numbers of 64 bits, also such as no call answers.
-#[derive(Clone, Copy)]
-pub(crate) struct Expected {
-    pub number: u64,
-    digest: Digest,
-}
-
-impl Expected {
-    pub(crate) fn is_met_by(self, got: Answer) -> bool {
-        self.number == u64::from(got.number) && self.digest == got.digest
-    }
-}
-
-impl fmt::Display for Expected {
-    fn fmt<W: fmt::Write>(&self, f: &mut fmt::Formatter<W>) -> fmt::Result {
-        let digest = self.digest.0;
-        write!(f, "{} with {digest}", self.number)
-    }
-}
-
 impl Line {
     pub(crate) fn new() -> Line {
         Line {
-            letter: 0,
+            letter: None,
             numbers: ArrayVec::new(),
             negative: false,
         }
@@ -51,7 +30,7 @@ impl Line {
             b'0'..=b'9' => self.take_digit(byte - b'0'),
             b' ' => self.begin_number(),
             b'-' => self.negative = true,
-            _ => self.letter = byte,
+            _ => self.letter = Some(byte),
         }
     }
 
@@ -98,11 +77,11 @@ impl Line {
         self.numbers.get(1..).unwrap_or(&[])
     }
 
-    // The number that a call answers stands last but one, the digest last; where the line has none, it is 0.
-    pub(crate) fn expected(&self) -> Expected {
+    // What the call is to answer: the number stands last but one, the digest last, each 0 where the line has none.
+    pub(crate) fn expected(&self) -> Answer {
         let mut last = self.numbers.iter().rev().copied();
         let digest = Digest(last.next().unwrap_or(0));
-        Expected {
+        Answer {
             number: last.next().unwrap_or(0),
             digest,
         }

@@ -3,14 +3,10 @@ use crate::digest::{Answer, Digest};
 use crate::line::Line;
 use crate::records::ROOM;
 use river::River;
-use stoichiometry::number_of;
 
 fn write_one(river: River, output: &mut [u8]) -> Answer {
     let answer = page::write_page(river, output);
-    Answer {
-        number: number_of(&answer),
-        digest: Digest::START.with_all(output),
-    }
+    Answer::of(&answer, Digest::START.with_all(output))
 }
 
 // The page written into an output of the length that a line gives, filled with 35 before, so that a byte that should

@@ -5,7 +5,7 @@ use crate::digest::{Answer, Digest};
 use crate::line::Line;
 use record::Record;
 use river::{AMOUNTS, CARRIES, River};
-use stoichiometry::{Refusal, number_of};
+use stoichiometry::Refusal;
 
 // Room for more than a text of nine cells.
 pub(crate) const ROOM: usize = 8600;
@@ -73,10 +73,7 @@ impl Text {
 
 fn write_both(river: River, output: &mut [u8], work: &mut [u8]) -> Answer {
     let answer = record::write_record(river, output, work);
-    Answer {
-        number: number_of(&answer),
-        digest: Digest::START.with_all(output).with_all(work),
-    }
+    Answer::of(&answer, Digest::START.with_all(output).with_all(work))
 }
 
 // The record written into buffers of the lengths that a line gives, the output filled with 35 before, the work area
@@ -89,7 +86,7 @@ pub(crate) fn written(line: &Line, river: River) -> Answer {
     write_both(river, &mut output[0..first], &mut work[0..second])
 }
 
-// A river of no cells, which no call answers.
+// A river of no cells, which no call answers; the digest that the vectors give of a refused reading is of this river.
 pub(crate) fn no_river() -> River {
     River {
         cells: 0,
@@ -99,10 +96,7 @@ pub(crate) fn no_river() -> River {
 }
 
 fn of_read(answer: Result<River, Refusal>) -> Answer {
-    Answer {
-        number: number_of(&answer),
-        digest: Digest::of_river(&answer.unwrap_or(no_river())),
-    }
+    Answer::of(&answer, Digest::of_river(&answer.unwrap_or(no_river())))
 }
 
 pub(crate) fn read(text: &Text) -> Answer {
@@ -114,7 +108,7 @@ pub(crate) fn lines(line: &Line, text: &Text) -> Answer {
     let number = record_reading::number_of_cell(text.lent(), cell);
     let lines = record_reading::lines_of_cell(text.lent(), cell);
     Answer {
-        number,
+        number: u64::from(number),
         digest: Digest::START.with(lines.len() as i64).with_all(lines),
     }
 }

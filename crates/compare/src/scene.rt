@@ -35,16 +35,22 @@ impl Scene {
         }
     }
 
-    // One more line. One whose letter asks for nothing is only counted.
+    // One more line. One without a letter, or whose letter asks for nothing, is only counted.
     pub(crate) fn take(&mut self, line: &Line) {
         self.tally.count_line();
-        match Kind::try_from(line.letter) {
+        if let Some(letter) = line.letter {
+            self.ask(letter, line);
+        }
+    }
+
+    fn ask(&mut self, letter: u8, line: &Line) {
+        match Kind::try_from(letter) {
             Ok(Kind::Set) => {
                 self.figures = Figures::of(line);
                 self.changed = Changes::default();
             }
             Ok(Kind::Change(change)) => self.change(change, line),
-            Ok(Kind::Call(call)) => self.call(call, line),
+            Ok(Kind::Call(call)) => self.call(call, letter, line),
             Err(_) => {}
         }
     }
@@ -61,6 +67,7 @@ impl Scene {
     // A place that is not there changes nothing.
     fn change(&mut self, change: Change, line: &Line) {
         let place = line.place(0);
+        // The arms take different arguments, so that a table of closures is no plainer.
         match change {
             Change::Figure => {
                 let figures = self.changed.figures.get_or_insert(self.figures);
@@ -86,7 +93,7 @@ impl Scene {
     }
 
     // A river that was changed for this call alone is then again what it was.
-    fn call(&mut self, call: Call, line: &Line) {
+    fn call(&mut self, call: Call, letter: u8, line: &Line) {
         let changed = mem::take(&mut self.changed);
         let figures = changed.figures.unwrap_or(self.figures);
         let mut river = changed.river.unwrap_or(self.river);
@@ -94,7 +101,6 @@ impl Scene {
         if changed.river.is_none() {
             self.river = river;
         }
-        self.tally
-            .count_call(call, line.letter, line.expected(), got);
+        self.tally.count_call(call, letter, line.expected(), got);
     }
 }

@@ -3,7 +3,7 @@ use crate::digest::{Answer, Digest};
 use crate::line::Line;
 use std::array;
 use stoichiometry::{
-    Fractions, HalfSaturations, InertFractions, Organics, RateConstants, Set, Yields, number_of,
+    Fractions, HalfSaturations, InertFractions, Organics, RateConstants, Set, Yields,
 };
 
 const FIGURES: usize = 83;
@@ -44,7 +44,7 @@ impl Figures {
     }
 }
 
-// The fractions of an organic, counted from 0 to 7.
+// The fractions of an organic, counted from 0 to 7. Fractions are lists only here, so stoichiometry has no such form.
 fn fractions(figures: &Figures, organic: usize) -> Fractions {
     let [carbon, hydrogen, oxygen, nitrogen, phosphorus]: [u32; 5] = figures.part(organic % 8 * 5);
     Fractions {
@@ -85,12 +85,13 @@ impl From<&Figures> for Set {
 // The published set with the rate constants and half-saturations of the figures; where it is refused, a set of zeros.
 pub(crate) fn published(figures: &Figures) -> Answer {
     let answer = Set::published(figures.rates(), figures.half_saturations());
-    Answer {
-        number: number_of(&answer),
-        digest: of_set(answer.unwrap_or(Set::from(&Figures::ZEROS))),
-    }
+    Answer::of(
+        &answer,
+        of_set(answer.unwrap_or(Set::from(&Figures::ZEROS))),
+    )
 }
 
+// Fractions, inert ones too, are lists only here.
 fn with_fractions(digest: Digest, f: Fractions) -> Digest {
     digest.with_all(&[f.carbon, f.hydrogen, f.oxygen, f.nitrogen, f.phosphorus])
 }

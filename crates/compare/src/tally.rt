@@ -1,7 +1,6 @@
 // The counts of the calls and of equal answers, and the first difference.
 use crate::digest::Answer;
 use crate::kinds::Call;
-use crate::line::Expected;
 use std::fmt;
 
 // The numbers that a call answers: 0, and those of the refusals.
@@ -20,11 +19,11 @@ impl Row {
         equal: 0,
     };
 
-    fn count(&mut self, expected: Expected, got: Answer) {
+    fn count(&mut self, expected: Answer, got: Answer) {
         if let Some(count) = self.counts.get_mut(expected.number as usize) {
             *count = count.saturating_add(1);
         }
-        if expected.is_met_by(got) {
+        if got == expected {
             self.equal = self.equal.saturating_add(1);
         }
     }
@@ -41,7 +40,7 @@ impl Row {
 pub(crate) struct Difference {
     line: u64,
     letter: u8,
-    expected: Expected,
+    expected: Answer,
     got: Answer,
 }
 
@@ -75,9 +74,9 @@ impl Tally {
         self.lines = self.lines.saturating_add(1);
     }
 
-    pub(crate) fn count_call(&mut self, call: Call, letter: u8, expected: Expected, got: Answer) {
+    pub(crate) fn count_call(&mut self, call: Call, letter: u8, expected: Answer, got: Answer) {
         self.rows[call as usize].count(expected, got);
-        if !expected.is_met_by(got) && self.first.is_none() {
+        if got != expected && self.first.is_none() {
             self.first = Some(Difference {
                 line: self.lines,
                 letter,

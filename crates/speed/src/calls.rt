@@ -38,6 +38,7 @@ fn pages(turns: u64) -> u64 {
 // The checksum of the calls that are asked for.
 pub(crate) fn checksum_of(order: Order) -> Result<u64, Refusal> {
     let turns = order.turns;
+    // The arms take different arguments, so that a table of closures is no plainer.
     let sum = match order.kind {
         Kind::Nothing => checksum(turns, &rivers(), |river, sum, _| {
             with(sum, u64::from(river.cells))

@@ -16,6 +16,10 @@ unfoldable pub totals_number : Set → River → ℕ → ℕ
 totals_number set r cell =
     first_holding (set_checks set ++ (4 when river_wrong r ∷ 5 when not (cell_exists r cell) ∷ []))
 
+-- The totals in the order of the fields.
+abbrev pub total_list : Totals → List ℤ
+total_list t = t.carbon ∷ t.hydrogen ∷ t.oxygen ∷ t.nitrogen ∷ t.phosphorus ∷ t.charge ∷ []
+
 -- The six totals of a cell, grains.
 abbrev pub totals_in : Set → List ℤ → ℕ → Totals
 totals_in set amounts c =

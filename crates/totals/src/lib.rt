@@ -2,7 +2,7 @@
 #![tactic(auto)]
 
 ghost use Rattle.std.specs.Prelude.{◌≡◌};
-ghost use Rattle.totals.specs.Totals.{totals_answer};
+ghost use Rattle.totals.specs.Totals.{total_list, totals_answer};
 
 use numeric::in_range;
 use river::River;
@@ -20,6 +20,22 @@ pub struct Totals {
     pub nitrogen: i64,
     pub phosphorus: i64,
     pub charge: i64,
+}
+
+impl Totals {
+    // The totals in the order of the fields.
+    pub fn figures(&self) -> [i64; 6]
+        ensures answer { result ≡ total_list self.now }
+    {
+        [
+            self.carbon,
+            self.hydrogen,
+            self.oxygen,
+            self.nitrogen,
+            self.phosphorus,
+            self.charge,
+        ]
+    }
 }
 
 // The six totals of a cell, 1 to the number of cells, under a set. Refuses with 1, 2, 3, 4 and 5.

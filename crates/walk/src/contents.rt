@@ -26,14 +26,7 @@ impl Contents {
 
 impl From<Totals> for Contents {
     fn from(t: Totals) -> Contents {
-        Contents([
-            t.carbon,
-            t.hydrogen,
-            t.oxygen,
-            t.nitrogen,
-            t.phosphorus,
-            t.charge,
-        ])
+        Contents(t.figures())
     }
 }
 
