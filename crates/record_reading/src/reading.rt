@@ -81,8 +81,8 @@ fn read_cell(text: &[u8], c: usize, river: &mut River) -> Option<()>
     Some(())
 }
 
-// The amounts and carries of the first n cells, if each line has its value. That n is at most 8 is a clause: `size_fits`
-// told it to the one caller, and a type for it would be made for this one call.
+// The amounts and carries of the first n cells, if each line has its value. That n is at most 8 is a clause:
+// `size_fits` told it to the one caller, and a type for it would be made for this one call.
 pub(crate) fn read_cells(text: &[u8], n: usize, river: &mut River) -> Option<()>
     requires cells_in_text { (n ≤ most_cells) × (n * cell_bytes ≤ length text.now) }
     requires no_amounts { river.old.amounts ≡ replicate (most_cells * substances) (pos 0) }

@@ -4,4 +4,6 @@ use Rattle.record_reading.proofs.ReadAnswers.{lines_refused}
 use Rattle.record_reading.proofs.lines_of_cell.Goals as goal
 
 pub returns-in-Err : goal.returns-in-Err
-returns-in-Err c = record { answer = sym (lines_refused c.args.text.now c.args.cell c.in-Err.field-0 c.in-Err.ensures.number) }
+returns-in-Err c =
+    let refused = c.in-Err.ensures.number in
+    record { answer = sym (lines_refused c.args.text.now c.args.cell c.in-Err.field-0 refused) }

@@ -24,7 +24,8 @@ returns-then-not-in_range-clause-number c =
     sym (cell_refused c.args.text.now c.args.cell read.0 (cells ∙ sym c.if-not-in_range.ensures))
 
 -- Past both checks.
-exists : (t : List ℕ) (cell : ℕ) (r : River) → read_answer t ≡ Ok r → in_range 1 r.cells cell ≡ true → cell_number t cell ≡ 0
+exists : (t : List ℕ) (cell : ℕ) (r : River) → read_answer t ≡ Ok r → in_range 1 r.cells cell ≡ true
+    → cell_number t cell ≡ 0
 unfolding river_in
 exists t cell r answer within =
     let read = read-record t r answer in

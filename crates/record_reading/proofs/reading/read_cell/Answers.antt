@@ -54,6 +54,7 @@ loop-k-preserved c =
             more,
             ap (λ (r : River). r.cells) w.river-is ∙ c.loop-k.invariant.1,
             ap (λ (r : River). r.amounts) w.river-is ∙ amounts_kept _ _ _ k _ h c.loop-k.invariant.2,
-            ap (λ (r : River). r.carries) w.river-is ∙ carry_stored _ _ _ k _ h c.loop-k.invariant.3 _ (ap nat_abs kept ∙ at_line),
+            ap (λ (r : River). r.carries) w.river-is
+                ∙ carry_stored _ _ _ k _ h c.loop-k.invariant.3 _ (ap nat_abs kept ∙ at_line),
           )
     ]

@@ -1,4 +1,5 @@
--- `flow::Part::passed` meets its contract: the part of a size fits with either sign, since it is no larger. No assumptions.
+-- `flow::Part::passed` meets its contract: the part of a size fits with either sign, since it is no larger.
+-- No assumptions.
 use Rattle.std.proofs.Common.{◌≡◌, [], ◌∷◌, ◌∙◌, refl, arith, ℕ, ◌^◌, ◌<◌, ◌≤◌, ℤ, pos, neg_ℤ, nat_abs, ◌-ℤ◌, to_z}
 use lib.IntN.{+ℤ_idl}
 use lib.Signed.{◌≤ℤ◌, ◌<ℤ◌}
