@@ -13,6 +13,8 @@ use Rattle.stoichiometry.specs.declared.refusals.Refusal.{Refusal}
 use Rattle.stoichiometry.specs.declared.refusals.Refusal.TheVariants.{Text}
 use Rattle.numeric.specs.Check.{in_range, first_holding}
 use Rattle.numeric.proofs.CheckLaws.{and_left, and_right, leb-within}
+use Rattle.stoichiometry.specs.Refusals.{number}
+use Rattle.stoichiometry.proofs.RefusalLaws.{number-positive}
 use Rattle.river.specs.declared.River.{River}
 use Rattle.river.specs.Rivers.{most_cells, cells_fit, river_wrong}
 use Rattle.text.specs.Blocks.{part}
@@ -107,9 +109,9 @@ module _ (t : List ℕ) where
         let width : start + cell_bytes - start ≡ cell_bytes = omega arith in
         ap (λ (n : ℕ). take n (drop start t)) width ∙ sym (lines_accepted e)
 
-    pub lines_none : (cell_number t cell ≡ 0 → ⊥) → cell_lines t cell ≡ []
+    pub lines_refused : (refusal : Refusal) → number refusal ≡ cell_number t cell → cell_lines t cell ≡ []
     unfolding cell_lines
-    lines_none h = rw (ne_eqb (cell_number t cell) 0 h) refl
+    lines_refused refusal e = rw (ne_eqb (cell_number t cell) 0 (λ z. number-positive refusal (e ∙ z))) refl
 
     pub cell_within : cell_number t cell ≡ 0 → (1 ≤ cell) × ((cell - 1) * cell_bytes + cell_bytes ≤ length t)
     cell_within z = go (is_record t) (in_range 1 (cells_in t) cell) refl refl

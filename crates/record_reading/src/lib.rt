@@ -1,14 +1,15 @@
 // The record of a river, read back and handed out by cells. A text is a record or it is refused.
 #![tactic(auto)]
 
-ghost use Rattle.std.specs.Prelude.{◌≡◌};
+ghost use Rattle.std.specs.Prelude.{◌≡◌, IfOk};
+ghost use Rattle.stoichiometry.specs.Refusals.{number_of};
 ghost use Rattle.record_reading.specs.Reading.{read_answer, cell_number, cell_lines};
 
 use crate::reading::{read_cells, size_fits};
 use numeric::in_range;
 use record::Record;
 use river::{AMOUNTS, CARRIES, River};
-use stoichiometry::Refusal;
+use stoichiometry::{Refusal, number_of};
 
 mod reading;
 
@@ -25,7 +26,7 @@ pub fn read_record(text: &[u8]) -> Result<River, Refusal>
         amounts: [0; AMOUNTS],
         carries: [0; CARRIES],
     };
-    let Some(()) = read_cells(text, n, &mut river.amounts, &mut river.carries) else {
+    let Some(()) = read_cells(text, n, &mut river) else {
         return Err(Refusal::Text);
     };
     if !river.fits() {
@@ -34,32 +35,33 @@ pub fn read_record(text: &[u8]) -> Result<River, Refusal>
     Ok(river)
 }
 
+// The lines of one cell, counted from 1, as that part of the text. Refuses with 11, then 5.
+fn part_of(text: &[u8], cell: u32) -> Result<&[u8], Refusal>
+    ensures number { number_of result ≡ cell_number text.now cell }
+    ensures lines { IfOk result (λ part. part.now ≡ cell_lines text.now cell) }
+{
+    let river = read_record(text)?;
+    if !in_range(1, river.cells, cell) {
+        return Err(Refusal::Place);
+    }
+    let start = (cell - 1) as usize * Record::CELL_BYTES;
+    Ok(&text[start..start + Record::CELL_BYTES])
+}
+
 // The number that goes with `lines_of_cell`: 11, then 5, or 0. Cells are counted from 1. The scope asks for the part of
 // the text alone, empty on a refusal, and for this companion call: hence two calls, and no `Result`.
 pub fn number_of_cell(text: &[u8], cell: u32) -> u32
     ensures answer { result ≡ cell_number text.now cell }
 {
-    match read_record(text) {
-        Err(refusal) => refusal.number(),
-        Ok(river) => {
-            if in_range(1, river.cells, cell) {
-                0
-            } else {
-                Refusal::Place.number()
-            }
-        }
-    }
+    number_of(&part_of(text, cell))
 }
 
 // The lines of one cell, as that part of the lent text; empty where `number_of_cell` gives a number.
-#[tactic(auto, using(crate::proofs::ReadAnswers::cell_within, crate::proofs::ReadAnswers::lines_between, crate::proofs::ReadAnswers::lines_none))]
 pub fn lines_of_cell(text: &[u8], cell: u32) -> &[u8]
     ensures answer { result.now ≡ cell_lines text.now cell }
 {
-    if number_of_cell(text, cell) == 0 {
-        let start = (cell - 1) as usize * Record::CELL_BYTES;
-        let end = start + Record::CELL_BYTES;
-        return &text[start..end];
+    match part_of(text, cell) {
+        Ok(part) => part,
+        Err(_) => &text[0..0],
     }
-    &text[0..0]
 }

@@ -10,7 +10,7 @@ ghost use Rattle.record_reading.specs.Reading.{cell_right, lines_right, amounts_
 ghost use Rattle.record_reading.specs.Inner.Stages.{amounts_stored, carries_stored};
 
 use record::Record;
-use river::{AMOUNTS, CARRIES, River};
+use river::River;
 use stoichiometry::{PROCESSES, SUBSTANCES};
 use text::two_columns;
 use text_reading::read_decimal;
@@ -59,16 +59,12 @@ fn line_value(line: &[u8], cell: u32, k: usize) -> Option<i64>
 // The amounts and then the carries of cell c, counted from 0, if each of its lines has its value. One loop over all
 // lines, so that a line is read from one place only and the compiler sets the reading of it into the loop. The cell is
 // told by its number: by chunks it would be three, of the text, the amounts and the carries, zipped and counted.
-fn read_cell(
-    text: &[u8],
-    c: usize,
-    amounts: &mut [i64; AMOUNTS],
-    carries: &mut [u32; CARRIES],
-) -> Option<()>
+fn read_cell(text: &[u8], c: usize, river: &mut River) -> Option<()>
     requires { (c < most_cells) × (c * cell_bytes + cell_bytes ≤ length text.now) }
     ensures value { is_some result ≡ cell_right text.now c }
-    ensures amounts_after { OnSome result (amounts.new ≡ amounts_stored text.now c amounts.old) }
-    ensures carries_after { OnSome result (carries.new ≡ carries_stored text.now c carries.old) }
+    ensures cells_kept { OnSome result (river.new.cells ≡ river.old.cells) }
+    ensures amounts_after { OnSome result (river.new.amounts ≡ amounts_stored text.now c river.old.amounts) }
+    ensures carries_after { OnSome result (river.new.carries ≡ carries_stored text.now c river.old.carries) }
 {
     let start = c * Record::CELL_BYTES;
     let cell = (c + 1) as u32;
@@ -77,30 +73,27 @@ fn read_cell(
         let line = &text[at..at + Record::LINE_BYTES];
         let value = line_value(line, cell, k)?;
         if k < SUBSTANCES {
-            amounts[c * SUBSTANCES + k] = value;
+            river.amounts[c * SUBSTANCES + k] = value;
         } else {
-            carries[c * PROCESSES + (k - SUBSTANCES)] = value as u32;
+            river.carries[c * PROCESSES + (k - SUBSTANCES)] = value as u32;
         }
     }
     Some(())
 }
 
-// The amounts and carries of the first n cells, if each line has its value.
-pub(crate) fn read_cells(
-    text: &[u8],
-    n: usize,
-    amounts: &mut [i64; AMOUNTS],
-    carries: &mut [u32; CARRIES],
-) -> Option<()>
+// The amounts and carries of the first n cells, if each line has its value. That n is at most 8 is a clause:
+// `size_fits` told it to the one caller, and a type for it would be made for this one call.
+pub(crate) fn read_cells(text: &[u8], n: usize, river: &mut River) -> Option<()>
     requires cells_in_text { (n ≤ most_cells) × (n * cell_bytes ≤ length text.now) }
-    requires no_amounts { amounts.old ≡ replicate (most_cells * substances) (pos 0) }
-    requires no_carries { carries.old ≡ replicate (most_cells * processes) 0 }
+    requires no_amounts { river.old.amounts ≡ replicate (most_cells * substances) (pos 0) }
+    requires no_carries { river.old.carries ≡ replicate (most_cells * processes) 0 }
     ensures value { is_some result ≡ lines_right n text.now }
-    ensures amounts_after { OnSome result (amounts.new ≡ amounts_in n text.now) }
-    ensures carries_after { OnSome result (carries.new ≡ carries_in n text.now) }
+    ensures cells_kept { OnSome result (river.new.cells ≡ river.old.cells) }
+    ensures amounts_after { OnSome result (river.new.amounts ≡ amounts_in n text.now) }
+    ensures carries_after { OnSome result (river.new.carries ≡ carries_in n text.now) }
 {
     for c in 0..n {
-        read_cell(text, c, amounts, carries)?;
+        read_cell(text, c, river)?;
     }
     Some(())
 }

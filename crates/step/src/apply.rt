@@ -29,7 +29,7 @@ pub(crate) struct Terms<'a> {
 
 impl Terms<'_> {
     // What the process at place p adds to the substance at place s in cell c; one that does not change it has no entry
-    // for it.
+    // for it. A test beside the places: an `Option` of the place would be made at each call and taken apart here.
     fn added_by(&self, c: usize, s: usize, p: usize, changes: bool) -> i64
         requires { (c < most_cells) × (s < substances) × (p < processes) × (changes ≡ may_change p s) }
         ensures { result ≡ added_from self.now.whole.now (c * processes) self.now.entries.now s p }

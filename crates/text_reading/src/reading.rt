@@ -100,7 +100,8 @@ fn digits_after(columns: &[u8], start: usize, mark: u8) -> Option<i64>
     counted(mark, size)
 }
 
-// The value of columns whose blanks and mark end at `start`: a zero there has to stand alone, without a minus.
+// The value of columns whose blanks and mark end at `start`: a zero there has to stand alone, without a minus. The
+// place is handed, here and above, and not the columns from it: the mark before it is part of the same columns.
 fn value_after(columns: &[u8], start: usize, mark: u8) -> Option<i64>
     requires { DigitsFrom columns.now start mark }
     ensures { result ≡ value_of columns.now }

@@ -12,34 +12,42 @@ use stoichiometry::SUBSTANCES;
 // Parts are ten-thousandths: the most is the whole.
 const WHOLE: u64 = Flowed::PART_MOST as u64;
 
-// The part of a size, rounded down. The size is divided first, since size × part does not fit.
-#[tactic(auto, using(crate::proofs::FlowLaws::share_parts))]
-fn part_of(size: u64, part: u64) -> u64
-    requires { part ≤ 10000 }
-    ensures { result ≡ size * part / 10000 }
-{
-    size / WHOLE * part + size % WHOLE * part / WHOLE
+// The part of a flow, ten-thousandths.
+#[derive(Clone, Copy)]
+pub(crate) struct Part {
+    pub value: u64,
+    ghost most: { value ≤ 10000 },
 }
 
-// What passes of one amount, rounded toward zero: the part of its size, with its sign. Each sign has its own way: with
-// `unsigned_abs` and one way for both, a flow takes a tenth longer.
-fn passed(amount: i64, part: u64) -> i64
-    requires { (part ≤ 10000) × (nat_abs amount ≤ most_net) }
-    ensures { result ≡ passing part amount }
-{
-    if amount < 0 {
-        return -(part_of(-amount as u64, part) as i64);
+impl Part {
+    // The part of a size, rounded down. The size is divided first, since size × part does not fit.
+    #[tactic(auto, using(crate::proofs::FlowLaws::share_parts))]
+    fn of(self, size: u64) -> u64
+        ensures { result ≡ size * self.value / 10000 }
+    {
+        size / WHOLE * self.value + size % WHOLE * self.value / WHOLE
     }
-    part_of(amount as u64, part) as i64
-}
 
-// What leaves each cell, written over what `left` has.
-pub(crate) fn leave_cells(amounts: &[i64; AMOUNTS], part: u64, left: &mut [i64; AMOUNTS])
-    requires { (part ≤ 10000) × AmountsWithin most_net amounts.now }
-    ensures { left.new ≡ left_of part amounts.now }
-{
-    for k in 0..AMOUNTS {
-        left[k] = passed(amounts[k], part);
+    // What passes of one amount, rounded toward zero: the part of its size, with its sign. Each sign has its own way:
+    // with `unsigned_abs` and one way for both, a flow takes a tenth longer.
+    fn passed(self, amount: i64) -> i64
+        requires { nat_abs amount ≤ most_net }
+        ensures { result ≡ passing self.value amount }
+    {
+        if amount < 0 {
+            return -(self.of(-amount as u64) as i64);
+        }
+        self.of(amount as u64) as i64
+    }
+
+    // What leaves each cell, written over what `left` has.
+    pub(crate) fn leave_cells(self, amounts: &[i64; AMOUNTS], left: &mut [i64; AMOUNTS])
+        requires { AmountsWithin most_net amounts.now }
+        ensures { left.new ≡ left_of self.value amounts.now }
+    {
+        for k in 0..AMOUNTS {
+            left[k] = self.passed(amounts[k]);
+        }
     }
 }
 

@@ -7,7 +7,7 @@ ghost use Rattle.transport.specs.Flow.{flow_answer};
 ghost use Rattle.transport.specs.Air.{air_answer};
 
 use crate::air::Exchange;
-use crate::flow::{leave_cells, move_amounts};
+use crate::flow::{Part, move_amounts};
 use crate::load::{amount_at, set_amount, sum_fits};
 use numeric::in_range;
 use river::{AMOUNTS, River};
@@ -80,8 +80,9 @@ pub fn flow_river(river: River, part: u32) -> Result<Flowed, Refusal>
     if part > Flowed::PART_MOST {
         return Err(Refusal::Conditions);
     }
+    let part = Part { value: part as u64 };
+    part.leave_cells(&flowed.river.amounts, &mut flowed.left);
     let cells = flowed.river.cells as usize;
-    leave_cells(&flowed.river.amounts, part as u64, &mut flowed.left);
     move_amounts(cells, &mut flowed.river.amounts, &flowed.left);
     Ok(flowed)
 }

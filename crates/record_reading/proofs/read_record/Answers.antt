@@ -34,7 +34,8 @@ pub returns-then-not-fits : goal.returns-then-not-fits
 unfolding is_record river_in
 returns-then-not-fits c =
     let read = c.in-Some.ensures in
-    let wrong = rw (read.amounts_after, read.carries_after) at (wrong_tested _ false c.if-not-fits.ensures.answer) in
+    let tested = wrong_tested _ false c.if-not-fits.ensures.answer in
+    let wrong = rw (read.cells_kept, read.amounts_after, read.carries_after) at tested in
     record {
       answer =
           sym (read_refused c.args.text.now (rw (← c.if-not-size_fits.ensures, ← read.value, wrong)));
@@ -44,9 +45,10 @@ pub returns : goal.returns
 unfolding is_record river_in
 returns c =
     let read = c.in-Some.ensures in
-    let right = rw (read.amounts_after, read.carries_after) at (wrong_tested _ true c.if-not-fits.ensures.answer) in
+    let tested = wrong_tested _ true c.if-not-fits.ensures.answer in
+    let right = rw (read.cells_kept, read.amounts_after, read.carries_after) at tested in
     record {
       answer =
-          rw (read.amounts_after, read.carries_after)
+          rw (read.cells_kept, read.amounts_after, read.carries_after)
           (sym (answer-accepted c.args.text.now (rw (← c.if-not-size_fits.ensures, ← read.value, right))));
     }

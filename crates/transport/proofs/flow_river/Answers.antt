@@ -11,9 +11,7 @@ use Rattle.transport.proofs.FlowLists.{river-within, left-within}
 use Rattle.transport.proofs.flow_river.Goals as goal
 
 pub leave_cells-requires : goal.leave_cells-requires
-leave_cells-requires c =
-    let right = wrong_tested c.args.river true c.if-not-fits.ensures.answer in
-    (c.if-part-gt-PART_MOST.false, river-within c.args.river right)
+leave_cells-requires c = river-within c.args.river (wrong_tested c.args.river true c.if-not-fits.ensures.answer)
 
 pub move_amounts-requires-clause-cells_in_bounds : goal.move_amounts-requires-clause-cells_in_bounds
 move_amounts-requires-clause-cells_in_bounds c =

@@ -11,5 +11,6 @@ use Rattle.record_reading.proofs.reading.read_cell.Given as goal
 abbrev pub invariant-loop-k : goal.invariant-loop-k
 invariant-loop-k l =
     (every l.k (λ q. is_some (value_at l.text l.c q)) ≡ true)
-    × (l.amounts ≡ run l.fn.amounts (l.c * substances) (l.k - (l.k - substances)) (number_at l.text l.c))
-    × (l.carries ≡ run l.fn.carries (l.c * processes) (l.k - substances) (λ p. nat_abs (number_at l.text l.c (substances + p))))
+    × (l.river.cells ≡ l.fn.river.cells)
+    × (l.river.amounts ≡ run l.fn.river.amounts (l.c * substances) (l.k - (l.k - substances)) (number_at l.text l.c))
+    × (l.river.carries ≡ run l.fn.river.carries (l.c * processes) (l.k - substances) (λ p. nat_abs (number_at l.text l.c (substances + p))))

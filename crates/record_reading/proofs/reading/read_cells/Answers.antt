@@ -11,7 +11,7 @@ use Rattle.record_reading.proofs.reading.read_cells.Goals as goal
 
 pub loop-c-init : goal.loop-c-init
 loop-c-init c =
-    (every-none _, rw c.requires.no_amounts (rows_none most_cells _ _ _ _), rw c.requires.no_carries (rows_none most_cells _ _ _ _))
+    (every-none _, refl, rw c.requires.no_amounts (rows_none most_cells _ _ _ _), rw c.requires.no_carries (rows_none most_cells _ _ _ _))
 
 pub returns-in_err-read_cell-clause-value : goal.returns-in_err-read_cell-clause-value
 unfolding lines_right
@@ -26,8 +26,9 @@ loop-c-preserved c =
     let below = c.loop-c-test.true in
     let ok = c.in_ok-read_cell.ensures in (
       every_more n _ c.loop-c.invariant.0 (sym ok.value),
-      rows_next most_cells substances _ _ _ n _ _ _ c.loop-c.invariant.1 below most (λ k h. refl) ok.amounts_after,
-      rows_next most_cells processes _ _ _ n _ _ _ c.loop-c.invariant.2 below most (λ p h. refl) ok.carries_after,
+      ok.cells_kept ∙ c.loop-c.invariant.1,
+      rows_next most_cells substances _ _ _ n _ _ _ c.loop-c.invariant.2 below most (λ k h. refl) ok.amounts_after,
+      rows_next most_cells processes _ _ _ n _ _ _ c.loop-c.invariant.3 below most (λ p h. refl) ok.carries_after,
     )
 
 pub returns-clause-value : goal.returns-clause-value
@@ -39,10 +40,10 @@ pub returns-clause-amounts_after : goal.returns-clause-amounts_after
 unfolding amounts_in
 returns-clause-amounts_after c =
     let finished : c.loop-c.c ≡ c.args.n = omega arith in
-    rows_done most_cells substances _ _ _ _ _ (lit< tt) finished c.loop-c.invariant.1
+    rows_done most_cells substances _ _ _ _ _ (lit< tt) finished c.loop-c.invariant.2
 
 pub returns-clause-carries_after : goal.returns-clause-carries_after
 unfolding carries_in
 returns-clause-carries_after c =
     let finished : c.loop-c.c ≡ c.args.n = omega arith in
-    rows_done most_cells processes _ _ _ _ _ (lit< tt) finished c.loop-c.invariant.2
+    rows_done most_cells processes _ _ _ _ _ (lit< tt) finished c.loop-c.invariant.3

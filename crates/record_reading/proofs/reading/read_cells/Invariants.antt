@@ -12,5 +12,6 @@ use Rattle.record_reading.proofs.reading.read_cells.Given as goal
 abbrev pub invariant-loop-c : goal.invariant-loop-c
 invariant-loop-c l =
     (every l.c (cell_right l.text) ≡ true)
-    × RowsFilled most_cells substances l.n (pos 0) (number_at l.text) l.c l.amounts
-    × RowsFilled most_cells processes l.n 0 (λ d p. nat_abs (number_at l.text d (substances + p))) l.c l.carries
+    × (l.river.cells ≡ l.fn.river.cells)
+    × RowsFilled most_cells substances l.n (pos 0) (number_at l.text) l.c l.river.amounts
+    × RowsFilled most_cells processes l.n 0 (λ d p. nat_abs (number_at l.text d (substances + p))) l.c l.river.carries

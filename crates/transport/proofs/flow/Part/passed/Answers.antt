@@ -1,4 +1,5 @@
--- `flow::passed` meets its contract: the part of a size fits with either sign, since it is no larger. No assumptions.
+-- `flow::Part::passed` meets its contract: the part of a size fits with either sign, since it is no larger.
+-- No assumptions.
 use Rattle.std.proofs.Common.{◌≡◌, [], ◌∷◌, ◌∙◌, refl, arith, ℕ, ◌^◌, ◌<◌, ◌≤◌, ℤ, pos, neg_ℤ, nat_abs, ◌-ℤ◌, to_z}
 use lib.IntN.{+ℤ_idl}
 use lib.Signed.{◌≤ℤ◌, ◌<ℤ◌}
@@ -12,7 +13,7 @@ use Rattle.numeric.proofs.Machine.{kept, ran}
 use Rattle.stoichiometry.specs.Substances.{most_net}
 use Rattle.transport.specs.Flow.{passing}
 use Rattle.transport.proofs.FlowLaws.{share, share_le, passing_below, passing_above}
-use Rattle.transport.proofs.flow.passed.Goals as goal
+use Rattle.transport.proofs.flow.Part.passed.Goals as goal
 
 -- The part of the size of an amount, as the machine has it, and with the other sign.
 module _ (part n : ℕ) (amount : ℤ) (h : part ≤ 10000) (small : nat_abs amount ≤ most_net)
@@ -32,14 +33,14 @@ module _ (part n : ℕ) (amount : ℤ) (h : part ≤ 10000) (small : nat_abs amo
 pub returns-then-amount-lt0 : goal.returns-then-amount-lt0
 returns-then-amount-lt0 c =
     let a = c.args in
-    let known : Bounded (a.amount ∷ []) (most_net ∷ []) = c.requires.1 & all in
-    let size-is = c.part_of.ensures ∙ rw (ran known (⊝ (v 0)) tt, abs_neg a.amount) refl in
-    negated a.part _ a.amount c.requires.0 c.requires.1 size-is
+    let known : Bounded (a.amount ∷ []) (most_net ∷ []) = c.requires & all in
+    let size-is = c.of.ensures ∙ rw (ran known (⊝ (v 0)) tt, abs_neg a.amount) refl in
+    negated a.self.value _ a.amount c.args.self.most c.requires size-is
     (bits_lt c.ranges.amount (sfits_lit {z = pos 0} tt) c.if-amount-lt0.true)
 
 pub returns : goal.returns
 returns c =
     let a = c.args in
-    let size-is = c.part_of-2.ensures ∙ rw (to_z-of_z c.ranges.amount) refl in
-    as-is a.part _ a.amount c.requires.0 c.requires.1 size-is
+    let size-is = c.of-2.ensures ∙ rw (to_z-of_z c.ranges.amount) refl in
+    as-is a.self.value _ a.amount c.args.self.most c.requires size-is
     (bits_nlt c.ranges.amount (sfits_lit {z = pos 0} tt) c.if-amount-lt0.false)
