@@ -6,7 +6,7 @@ ghost use Rattle.stoichiometry.specs.Totals.{amount_at};
 ghost use Rattle.river.specs.Rivers.{river_wrong};
 ghost use Rattle.text.specs.Writes.{put};
 ghost use Rattle.page.specs.Pages.{level_columns, row_bytes, grams, row, levels_at, row_of, page_of};
-ghost use Rattle.page.specs.Inner.Stages.{levels_text, whole_of, CellFits, LevelsWithin};
+ghost use Rattle.page.specs.Inner.Stages.{levels_text, pair_of, justified_of, whole_of, CellFits, LevelsWithin};
 
 use crate::Page;
 use river::{AMOUNTS, River, letter_by};
@@ -17,7 +17,8 @@ const AMMONIUM: usize = 1;
 
 const OXYGEN: usize = 5;
 
-// Cell c of a river, counted from 0, whose levels are in their bounds.
+// Cell c of a river, counted from 0, whose levels are in their bounds. Not step's `Cell`, of which the bounds of all its
+// amounts are known: here it is those of the levels that a row has.
 #[derive(Clone, Copy)]
 struct Cell<'a> {
     amounts: &'a [i64; AMOUNTS],
@@ -77,6 +78,22 @@ static JUSTIFIED: [[u8; 2]; 100] = [
     *b"96", *b"97", *b"98", *b"99",
 ];
 
+#[tactic(auto, using(crate::proofs::FigureLaws::pair_at))]
+fn pair(n: u32) -> [u8; 2]
+    requires { n < 100 }
+    ensures { result ≡ pair_of n }
+{
+    PAIRS[n as usize]
+}
+
+#[tactic(auto, using(crate::proofs::FigureLaws::justified_at))]
+fn justified(n: u32) -> [u8; 2]
+    requires { n < 100 }
+    ensures { result ≡ justified_of n }
+{
+    JUSTIFIED[n as usize]
+}
+
 // The whole grams of a level over their four columns.
 fn write_whole(columns: &mut [u8], grams: u32)
     requires { (length columns.old ≡ 4) × (grams < 10000) }
@@ -85,10 +102,10 @@ fn write_whole(columns: &mut [u8], grams: u32)
     columns[0] = b' ';
     columns[1] = b' ';
     if grams < 100 {
-        columns[2..].copy_from_slice(&JUSTIFIED[grams as usize]);
+        columns[2..].copy_from_slice(&justified(grams));
     } else {
-        columns[..2].copy_from_slice(&JUSTIFIED[(grams / 100) as usize]);
-        columns[2..].copy_from_slice(&PAIRS[(grams % 100) as usize]);
+        columns[..2].copy_from_slice(&justified(grams / 100));
+        columns[2..].copy_from_slice(&pair(grams % 100));
     }
 }
 
@@ -106,7 +123,7 @@ fn write_grams(columns: &mut [u8], level: u32)
     write_whole(&mut columns[2..6], grams);
     columns[6] = b'.';
     columns[7] = b'0' + (rest / 100) as u8;
-    columns[8..].copy_from_slice(&PAIRS[(rest % 100) as usize]);
+    columns[8..].copy_from_slice(&pair(rest % 100));
 }
 
 // The levels of a row over their columns.
