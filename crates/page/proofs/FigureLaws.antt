@@ -1,9 +1,9 @@
 -- A level's figures by pairs of columns: the tables of numbers below 100, the whole grams, and the thousandths.
 -- No assumptions.
 use Prim.Native.Nat.{ℕ, zero, suc, ◌+◌, ◌-◌, ◌*◌, ◌/◌, ◌%◌, ◌≤◌, ◌<◌}
-use mathlib.Core.Bool.{Bool, true, ◌&&◌}
+use mathlib.Core.Bool.{Bool, true, false, ◌&&◌, true≢false}
 use mathlib.Core.List.{List, [], ◌∷◌, ◌++◌}
-use mathlib.Core.Path.{◌≡◌, refl, ap₂}
+use mathlib.Core.Path.{◌≡◌, refl, sym, ap₂}
 use native.Mathlib.Omega.{arith}
 use borrow.Author.Tests.{eqb-true}
 use lib.Dec.{eqb}
@@ -15,23 +15,35 @@ use Rattle.text.proofs.DecimalLaws.{glyph_zero}
 use Rattle.page.specs.declared.writing.TheConstants.{PAIRS, JUSTIFIED}
 use Rattle.page.specs.Inner.Stages.{pair_of, justified_of, whole_of, figures_of}
 
--- The entries of number n in a table, where they are the two bytes that a definition gives.
-abbrev entries : List ℕ → (ℕ → ℕ) → (ℕ → ℕ) → ℕ → Bool
-entries table first second n = eqb (get_or table (n * 2) 0) (first n) && eqb (get_or table (n * 2 + 1) 0) (second n)
+-- Some bytes are these two.
+are_two : List ℕ → ℕ → ℕ → Bool
+are_two [] first second = false
+are_two (a ∷ []) first second = false
+are_two (a ∷ b ∷ []) first second = eqb a first && eqb b second
+are_two (a ∷ b ∷ c ∷ rest) first second = false
 
-entries_at : (table : List ℕ) (first second : ℕ → ℕ) (n : ℕ) → every 100 (entries table first second) ≡ true → n < 100
-    → get_or table (n * 2) 0 ∷ get_or table (n * 2 + 1) 0 ∷ [] ≡ first n ∷ second n ∷ []
-entries_at table first second n all small =
-    let test = every_at 100 n (entries table first second) all small in
-    ap₂ (λ (a b : ℕ). a ∷ b ∷ []) (eqb-true _ _ (and_left _ _ test)) (eqb-true _ _ (and_right _ _ test))
+two_of : (bytes : List ℕ) (first second : ℕ) → are_two bytes first second ≡ true → bytes ≡ first ∷ second ∷ []
+unfolding are_two
+two_of [] first second e = absurd (true≢false (sym e))
+two_of (a ∷ []) first second e = absurd (true≢false (sym e))
+two_of (a ∷ b ∷ []) first second e =
+    ap₂ (λ (x y : ℕ). x ∷ y ∷ []) (eqb-true _ _ (and_left _ _ e)) (eqb-true _ _ (and_right _ _ e))
+two_of (a ∷ b ∷ c ∷ rest) first second e = absurd (true≢false (sym e))
 
-pub pair_at : (n : ℕ) → n < 100 → get_or PAIRS (n * 2) 0 ∷ get_or PAIRS (n * 2 + 1) 0 ∷ [] ≡ pair_of n
-unfolding every
-pair_at n small = entries_at PAIRS (λ k. 48 + k / 10) (λ k. 48 + k % 10) n refl small
+-- The entry of number n in a table, where each is the two bytes that a definition gives.
+entry_at : (table : List (List ℕ)) (first second : ℕ → ℕ) (n : ℕ)
+    → every 100 (λ k. are_two (get_or table k []) (first k) (second k)) ≡ true → n < 100
+    → get_or table n [] ≡ first n ∷ second n ∷ []
+entry_at table first second n all small =
+    two_of _ (first n) (second n) (every_at 100 n (λ k. are_two (get_or table k []) (first k) (second k)) all small)
 
-pub justified_at : (n : ℕ) → n < 100 → get_or JUSTIFIED (n * 2) 0 ∷ get_or JUSTIFIED (n * 2 + 1) 0 ∷ [] ≡ justified_of n
-unfolding every glyph
-justified_at n small = entries_at JUSTIFIED (λ k. glyph (k / 10) 32) (λ k. 48 + k % 10) n refl small
+pub pair_at : (n : ℕ) → n < 100 → get_or PAIRS n [] ≡ pair_of n
+unfolding every are_two
+pair_at n small = entry_at PAIRS (λ k. 48 + k / 10) (λ k. 48 + k % 10) n refl small
+
+pub justified_at : (n : ℕ) → n < 100 → get_or JUSTIFIED n [] ≡ justified_of n
+unfolding every glyph are_two
+justified_at n small = entry_at JUSTIFIED (λ k. glyph (k / 10) 32) (λ k. 48 + k % 10) n refl small
 
 glyph_some : (r : ℕ) → 1 ≤ r → glyph r 32 ≡ 48 + r % 10
 unfolding glyph

@@ -9,7 +9,7 @@ use borrow.Author.Tests.{ltb-true, ltb-false}
 use lib.Bits.{bit_or}
 use lib.Dec.{ltb}
 use lib.IntN.{ℤ, pos}
-use lib.ListN.{length, take, drop, get_or, length-take, length-drop}
+use lib.ListN.{length, take, drop, get_or, length-take}
 use lib.Seq.{get_or-take, get_or-drop}
 use lib.Signed.{◌≤ℤ◌, le_z}
 use mir.Syntax.{w64}
@@ -21,7 +21,7 @@ use Rattle.numeric.proofs.JoinedBits.{or_covers}
 use Rattle.numeric.proofs.Machine.{kept}
 use Rattle.numeric.proofs.RingLaws.{≤ℤ_trans}
 use Rattle.river.specs.Rivers.{lowest_at, highest_at, amount_fits}
-use Rattle.river.specs.Inner.Runs.{RunFits, same_bounds, Covers}
+use Rattle.river.specs.Inner.Runs.{RunFits, same_bounds, CoversFirst, Covers}
 use Rattle.river.proofs.Bounds.{fits-lowest, fits-highest, fits_from}
 
 module _ (cell : List ℤ) (first : ℕ) where
@@ -63,11 +63,6 @@ module _ (cell : List ℤ) (n : ℕ) where
       by_test true all = absurd (other refl (λ s from before. every_at n s _ all before))
       by_test false none = refl
 
--- The amounts before place `count` are covered.
-abbrev pub CoversFirst : List ℤ → ℕ → ℤ → Type 0
-CoversFirst amounts count z =
-    pos 0 ≤ℤ z → (i : ℕ) → i < count → (pos 0 ≤ℤ get_or amounts i (pos 0)) × (get_or amounts i (pos 0) ≤ℤ z)
-
 module _ (amounts : List ℤ) where
   pub covers_none : (z : ℤ) → CoversFirst amounts 0 z
   covers_none z h i before = let no : ⊥ = omega arith in absurd no
@@ -93,21 +88,26 @@ module _ (amounts : List ℤ) where
           let only : i ≡ count = omega (arith, ltb-false i count e) in
           rw only (rw same at (or_covers b (of_z w64 x) h).1)
 
+  -- What covers the first of all amounts covers them among more.
+  pub covers_taken : (count : ℕ) (z : ℤ) → count ≤ length amounts → Covers (take count amounts) z
+      → CoversFirst amounts count z
+  covers_taken count z room all h i before =
+      let inside : i < length (take count amounts) = simp length-take (omega arith) in
+      rw (get_or-take count amounts i (pos 0) before) at (all h i inside)
+
 -- One test of joined bits.
-pub run_covered : (cell : List ℤ) (first end : ℕ) (z : ℤ) → first < end → end ≤ length cell
-    → same_bounds first end ≡ true
-    → Covers (take (end - first) (drop first cell)) z → amount_fits first z ≡ true
+pub run_covered : (cell : List ℤ) (first end : ℕ) (z : ℤ) → first < end → same_bounds first end ≡ true
+    → CoversFirst (drop first cell) (end - first) z → amount_fits first z ≡ true
     → RunFits cell first end
-run_covered cell first end z some room same covers fits s from before =
+run_covered cell first end z some same covers fits s from before =
     let i = s - first in
     let is_s : first + i ≡ s = omega arith in
     let from_zero = le_z_true (pos 0) (lowest_at first) (and_left (le_z (pos 0) (lowest_at first)) _ same) in
     let others = and_right (le_z (pos 0) (lowest_at first)) _ same in
     let bounds = rw is_s at (every_at (end - first) i _ others (omega arith)) in
-    let inside : i < length (take (end - first) (drop first cell)) = simp (length-take, length-drop) (omega arith) in
-    let at : get_or (take (end - first) (drop first cell)) i (pos 0) ≡ get_or cell s (pos 0) =
-    get_or-take (end - first) (drop first cell) i (pos 0) (omega arith) ∙ get_or-drop first cell i (pos 0) ∙ ap (λ k. get_or cell k (pos 0)) is_s in
-    let covered = rw at at (covers (≤ℤ_trans from_zero (fits-lowest first z fits)) i inside) in
+    let at : get_or (drop first cell) i (pos 0) ≡ get_or cell s (pos 0) =
+    get_or-drop first cell i (pos 0) ∙ ap (λ k. get_or cell k (pos 0)) is_s in
+    let covered = rw at at (covers (≤ℤ_trans from_zero (fits-lowest first z fits)) i (omega arith)) in
     let lower = le_z_true (lowest_at s) (pos 0) (and_left _ (le_z (highest_at first) (highest_at s)) bounds) in
     let higher = le_z_true (highest_at first) (highest_at s) (and_right (le_z (lowest_at s) (pos 0)) _ bounds) in
     fits_from s (get_or cell s (pos 0)) (≤ℤ_trans lower covered.0) (≤ℤ_trans covered.1 (≤ℤ_trans (fits-highest first z fits) higher))

@@ -38,28 +38,13 @@ pub(crate) fn write_mark(out: &mut [u8], mark: u8)
     }
 }
 
-// A number of at most one digit and its mark. No digit where it is 0.
-fn write_last(out: &mut [u8], mark: u8, n: u32)
-    requires { n < 10 }
-    ensures { out.new ≡ digits_over (length out.old) out.old mark n }
-{
-    if n == 0 {
-        write_mark(out, mark);
-        return;
-    }
-    if let Some((last, before)) = out.split_last_mut() {
-        *last = b'0' + n as u8;
-        write_mark(before, mark);
-    }
-}
-
 // A number of at most four digits and its mark. Both pairs are written here, since a loop over them takes longer.
 pub(crate) fn write_pairs(out: &mut [u8], mark: u8, n: u32)
     requires { n < 10000 }
     ensures { out.new ≡ digits_over (length out.old) out.old mark n }
 {
     if n < 10 {
-        write_last(out, mark, n);
+        write_singles(out, mark, u64::from(n));
         return;
     }
     let Some((before, last)) = out.split_last_chunk_mut::<2>() else {
@@ -69,7 +54,7 @@ pub(crate) fn write_pairs(out: &mut [u8], mark: u8, n: u32)
     let hundreds = n / 100;
     *last = pair(n - hundreds * 100);
     if hundreds < 10 {
-        write_last(before, mark, hundreds);
+        write_singles(before, mark, u64::from(hundreds));
         return;
     }
     let Some((front, first)) = before.split_last_chunk_mut::<2>() else {

@@ -55,7 +55,7 @@ pub fn write_two(out: &mut [u8], at: usize, n: u32)
     out[at..at + 2].copy_from_slice(&two_columns(n));
 }
 
-// The first `count` bytes of `to` become those of `from`, where both have as many.
+// The first `count` bytes of `to` become those of `from`, where both have as many. Public, and kept as `write_decimal`.
 pub fn copy_bytes(from: &[u8], count: usize, to: &mut [u8])
     ensures to { to.new ≡ copied from.now count to.old }
 {

@@ -13,7 +13,9 @@ pub(crate) fn mark_of(value: i64) -> u8
     if value < 0 { b'-' } else { b' ' }
 }
 
-// The digits of n and its mark, one column a call: the last digits where there are fewer columns than digits.
+// The digits of n and its mark, one column a call: the last digits where there are fewer columns than digits. Here and
+// below the mark and n are two parameters: n gets shorter from call to call and has 32 bits in `write_pairs`, the mark
+// stays.
 pub(crate) fn write_singles(out: &mut [u8], mark: u8, n: u64)
     ensures { out.new ≡ digits_over (length out.old) out.old mark n }
 {
@@ -44,7 +46,8 @@ fn write_columns(out: &mut [u8], mark: u8, n: u64)
     write_columns(before, mark, more);
 }
 
-// Blanks in all columns, by a loop: `fill` clones the blank and stores the last one apart, and a record takes longer.
+// Blanks in all columns, by a loop: `fill` clones the blank and stores the last one apart, and a record takes 1.10 of
+// the reference's time in place of 1.06.
 fn write_blanks(out: &mut [u8])
     ensures { out.new ≡ replicate (length out.old) 32 }
 {

@@ -23,7 +23,11 @@ same_bounds first end =
     le_z (pos 0) (lowest_at first)
     && every (end - first) (λ i. le_z (lowest_at (first + i)) (pos 0) && le_z (highest_at first) (highest_at (first + i)))
 
--- Where z is not below zero, each of the amounts is from 0 to z.
+-- Where z is not below zero, each of the first `count` amounts is from 0 to z.
+abbrev pub CoversFirst : List ℤ → ℕ → ℤ → Type 0
+CoversFirst amounts count z =
+    pos 0 ≤ℤ z → (i : ℕ) → i < count → (pos 0 ≤ℤ get_or amounts i (pos 0)) × (get_or amounts i (pos 0) ≤ℤ z)
+
+-- The same of all amounts.
 abbrev pub Covers : List ℤ → ℤ → Type 0
-Covers amounts z =
-    pos 0 ≤ℤ z → (i : ℕ) → i < length amounts → (pos 0 ≤ℤ get_or amounts i (pos 0)) × (get_or amounts i (pos 0) ≤ℤ z)
+Covers amounts z = CoversFirst amounts (length amounts) z

@@ -1,5 +1,5 @@
 -- The bits cover the amounts passed.
-use Rattle.river.proofs.Runs.{CoversFirst}
+use Rattle.river.specs.Inner.Runs.{CoversFirst}
 use Rattle.river.proofs.amounts.joined.Given as goal
 
 abbrev pub invariant-loop-amount : goal.invariant-loop-amount

@@ -7,7 +7,8 @@ use Rattle.text.proofs.digits.write_pairs.Goals as goal
 pub returns-then-hundreds-lt10 : goal.returns-then-hundreds-lt10
 returns-then-hundreds-lt10 c =
     let (front, last, long) = c.in-Some.ensures.cases in
-    pair_joined c.args.out.now _ _ c.args.mark c.args.n _ c.write_last-then-hundreds-lt10.ensures _ front long
+    pair_joined c.args.out.now _ _ c.args.mark c.args.n _
+    (rw c.from-then-hundreds-lt10.ensures at c.write_singles-then-hundreds-lt10.ensures) _ front long
     c.if-n-lt10.false (omega arith) (c.pair.ensures ∙ pair_last c.args.n)
 
 pub returns-in_default-split_last_chunk_mut : goal.returns-in_default-split_last_chunk_mut
