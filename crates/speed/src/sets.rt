@@ -1,5 +1,5 @@
 // The sets and the conditions of the steps: the published set with rate constants at which every process makes whole
-// batches, and with other yields and half-saturations in each set.
+// batches, and with other yields and half-saturations in each set. The values are this program's own.
 use kinetics::{Conditions, Temperatures};
 use std::array;
 use stoichiometry::{

@@ -53,6 +53,7 @@ fn reference(process: usize) -> usize {
     }
 }
 
+// The three stand apart: a figure asks for two entries of its row, so a struct of them would be made twice for it.
 fn entry(rows: &[i64; ENTRIES], process: usize, substance: usize) -> Option<i64> {
     let row = rows.chunks_exact(SUBSTANCES).nth(process.checked_sub(1)?)?;
     row.get(substance).copied()
@@ -72,6 +73,7 @@ fn amount(entry: i64, substance: usize) -> Option<u64> {
 }
 
 // Whether a figure agrees with amount / unit, which is below zero where `negative` holds.
+// Sign and amount stand apart, as in the definition: a struct would be made at one call alone, and taken apart here.
 #[tactic(auto, unfolding(crate::specs::Agreement::agrees_with))]
 fn agrees(negative: bool, amount: u64, unit: u64, figure: Figure) -> bool
     requires { InReach amount unit figure }

@@ -21,8 +21,9 @@ fn contents(set: Set, amounts: [i64; AMOUNTS], cell: u32) -> Contents {
 // What a number, not negative, of a substance contains; the substance is counted from 1.
 fn contents_of(set: Set, substance: u32, number: i64) -> Contents {
     let mut amounts = [0; AMOUNTS];
-    let place = (substance as usize).wrapping_sub(1);
-    if let Some(amount) = amounts.get_mut(place) {
+    if let Some(place) = (substance as usize).checked_sub(1)
+        && let Some(amount) = amounts.get_mut(place)
+    {
         *amount = number;
     }
     contents(set, amounts, 1)
@@ -40,13 +41,15 @@ impl Book {
     };
 
     pub(crate) fn cell(&self, cell: u32) -> Contents {
-        let place = (cell as usize).wrapping_sub(1);
-        self.cells.get(place).copied().unwrap_or(Contents::NONE)
+        let place = (cell as usize).checked_sub(1);
+        let held = place.and_then(|place| self.cells.get(place).copied());
+        held.unwrap_or(Contents::NONE)
     }
 
     fn enter(&mut self, cell: u32, what: Contents) {
-        let place = (cell as usize).wrapping_sub(1);
-        if let Some(held) = self.cells.get_mut(place) {
+        if let Some(place) = (cell as usize).checked_sub(1)
+            && let Some(held) = self.cells.get_mut(place)
+        {
             *held = held.plus(what);
         }
     }

@@ -12,7 +12,6 @@ mod walk;
 use anyhow::Result;
 
 fn main(rt: HostRuntime) -> Result<()> {
-    let walked = calls::all(&rt, walk::Walk::start()?)?;
-    walked.write(&rt)?;
+    calls::all(walk::Walk::start(&rt)?)?.write()?;
     Ok(())
 }

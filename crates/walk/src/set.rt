@@ -1,4 +1,4 @@
-// The published set, with rate constants and half-saturations of a small river in summer.
+// The published set, with rate constants and half-saturations of a small river in summer; they are the walk's own.
 use stoichiometry::{
     AerobicHalfSaturations, AlgaeHalfSaturations, AlgaeRates, AnoxicHalfSaturations, GrowthRates,
     HalfSaturations, RateConstants, Refusal, Set, Xn1HalfSaturations, Xn2HalfSaturations,

@@ -11,80 +11,72 @@ use stoichiometry::{Refusal, Set, number_of};
 use totals::totals_of;
 use transport::{air_river, flow_river, load_river};
 
-#[derive(Clone, Copy)]
-pub(crate) struct Walk {
+#[derive(Drop)]
+pub(crate) struct Walk<'a, P: Print> {
+    rt: &'a P,
     set: Set,
     river: River,
     book: Book,
 }
 
-// Its calls stand in worked_example's `Day` too: a crate for both would have to promise what they print, and book of a
-// walk what a day does not.
-impl Walk {
-    pub(crate) fn start() -> std::result::Result<Walk, Refusal> {
+// A crate for both calls of this and of worked_example's `Day` would have to promise what they print, and only this one
+// keeps a book.
+impl<'a, P: Print> Walk<'a, P> {
+    pub(crate) fn start(rt: &'a P) -> std::result::Result<Walk<'a, P>, Refusal> {
         let set = published_set()?;
         let river = River::fresh(CELLS as u32)?;
         Ok(Walk {
+            rt,
             set,
             river,
             book: Book::EMPTY,
         })
     }
 
-    pub(crate) fn load(
-        mut self,
-        rt: &impl Print,
-        cell: u32,
-        substance: u32,
-        number: i64,
-    ) -> Result<Walk> {
+    pub(crate) fn load(mut self, cell: u32, substance: u32, number: i64) -> Result<Walk<'a, P>> {
         let before = self.river;
         let answer = load_river(before, cell, substance, number);
-        println!(rt; "load {}", number_of(&answer))?;
+        println!(self.rt; "load {}", number_of(&answer))?;
+        let set = self.set;
         if let Ok(river) = answer {
             self.river = river;
-            self.book.enter_number(self.set, cell, substance, number);
+            self.book.enter_number(set, cell, substance, number);
         }
         Ok(self)
     }
 
-    pub(crate) fn flow(mut self, rt: &impl Print, part: u32) -> Result<Walk> {
+    pub(crate) fn flow(mut self, part: u32) -> Result<Walk<'a, P>> {
         let before = self.river;
         let answer = flow_river(before, part);
-        println!(rt; "flow {}", number_of(&answer))?;
+        println!(self.rt; "flow {}", number_of(&answer))?;
+        let set = self.set;
         if let Ok(flowed) = answer {
             self.river = flowed.river;
-            self.book.enter_flow(self.set, flowed.left);
+            self.book.enter_flow(set, flowed.left);
         }
         Ok(self)
     }
 
     pub(crate) fn air(
         mut self,
-        rt: &impl Print,
         cell: u32,
         constant: u32,
         seconds: u32,
         saturation: u32,
-    ) -> Result<Walk> {
+    ) -> Result<Walk<'a, P>> {
         let before = self.river;
         let answer = air_river(before, cell, constant, seconds, saturation);
-        println!(rt; "air {}", number_of(&answer))?;
+        println!(self.rt; "air {}", number_of(&answer))?;
+        let set = self.set;
         if let Ok(aired) = answer {
             self.river = aired.river;
-            self.book.enter_number(self.set, cell, O2, aired.amount);
+            self.book.enter_number(set, cell, O2, aired.amount);
         }
         Ok(self)
     }
 
     // A step at a temperature at which every temperature factor is `warmth`, millionths.
-    pub(crate) fn step(
-        mut self,
-        rt: &impl Print,
-        seconds: u32,
-        light: u32,
-        warmth: u32,
-    ) -> Result<Walk> {
+    pub(crate) fn step(mut self, seconds: u32, light: u32, warmth: u32) -> Result<Walk<'a, P>> {
         let set = self.set;
         let before = self.river;
         let given = Conditions {
@@ -93,20 +85,20 @@ impl Walk {
             temperatures: Temperatures::all(warmth),
         };
         let answer = step_river(set, before, given);
-        println!(rt; "step {}", number_of(&answer))?;
+        println!(self.rt; "step {}", number_of(&answer))?;
         self.river = answer.unwrap_or(before);
         Ok(self)
     }
 
     // C, H, O, N, P and charge of each cell: held, and booked.
-    pub(crate) fn write(self, rt: &impl Print) -> Result<()> {
+    pub(crate) fn write(self) -> Result<()> {
         let set = self.set;
         let river = self.river;
         for cell in 1..=CELLS as u32 {
             let held = totals_of(set, river, cell).map_or(Contents::NONE, Contents::from);
-            println!(rt; "holds {cell} {held}")?;
+            println!(self.rt; "holds {cell} {held}")?;
             let booked = self.book.cell(cell);
-            println!(rt; "book  {cell} {booked}")?;
+            println!(self.rt; "book  {cell} {booked}")?;
         }
         Ok(())
     }

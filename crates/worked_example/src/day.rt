@@ -36,61 +36,59 @@ fn frame() -> Frame {
     }
 }
 
-#[derive(Clone, Copy)]
-pub(crate) struct Day {
+#[derive(Drop)]
+pub(crate) struct Day<'a, P: Print> {
+    rt: &'a P,
     set: Set,
     river: River,
 }
 
 // Its calls stand in walk's `Walk` too, with a book: a crate for both would have to promise what they print.
-impl Day {
-    pub(crate) fn start(rt: &impl Print) -> Result<Day> {
+impl<'a, P: Print> Day<'a, P> {
+    pub(crate) fn start(rt: &'a P) -> Result<Day<'a, P>> {
         let river = River::fresh(CELLS)?;
         let published = Set::published(rates(), half_saturations());
         println!(rt; "set {}", number_of(&published))?;
         Ok(Day {
+            rt,
             set: published?,
             river,
         })
     }
 
-    fn load(mut self, rt: &impl Print, substance: u32, number: i64) -> Result<Day> {
+    fn load(mut self, substance: u32, number: i64) -> Result<Day<'a, P>> {
         let before = self.river;
         let answer = transport::load_river(before, 1, substance, number);
-        println!(rt; "load {}", number_of(&answer))?;
+        println!(self.rt; "load {}", number_of(&answer))?;
         self.river = answer.unwrap_or(before);
         Ok(self)
     }
 
-    fn load_frame(
-        self,
-        rt: &impl Print,
-        answer: std::result::Result<Amounts, Refusal>,
-    ) -> Result<Day> {
-        println!(rt; "frame {}", number_of(&answer))?;
+    fn load_frame(self, answer: std::result::Result<Amounts, Refusal>) -> Result<Day<'a, P>> {
+        println!(self.rt; "frame {}", number_of(&answer))?;
         let amounts = answer?;
-        self.load(rt, NH4, amounts.ammonium)?
-            .load(rt, NO2, amounts.nitrite)?
-            .load(rt, NO3, amounts.nitrate)?
-            .load(rt, HPO4, amounts.phosphate)?
-            .load(rt, O2, amounts.oxygen.unwrap_or(0))
+        self.load(NH4, amounts.ammonium)?
+            .load(NO2, amounts.nitrite)?
+            .load(NO3, amounts.nitrate)?
+            .load(HPO4, amounts.phosphate)?
+            .load(O2, amounts.oxygen.unwrap_or(0))
     }
 
     // The probe's amounts, 10 g of SS, 5 g of XS, 2 mol of HCO3 and the organisms.
-    pub(crate) fn loaded(self, rt: &impl Print) -> Result<Day> {
-        self.load_frame(rt, probe::amounts_of(frame(), SATURATION))?
-            .load(rt, SS, 10 * GRAM)?
-            .load(rt, XS, 5 * GRAM)?
-            .load(rt, HCO3, 2 * MOLE)?
-            .load(rt, XH, 3 * GRAM)?
-            .load(rt, XN1, GRAM)?
-            .load(rt, XN2, GRAM)?
-            .load(rt, XALG, 2 * GRAM)
+    pub(crate) fn loaded(self) -> Result<Day<'a, P>> {
+        self.load_frame(probe::amounts_of(frame(), SATURATION))?
+            .load(SS, 10 * GRAM)?
+            .load(XS, 5 * GRAM)?
+            .load(HCO3, 2 * MOLE)?
+            .load(XH, 3 * GRAM)?
+            .load(XN1, GRAM)?
+            .load(XN2, GRAM)?
+            .load(XALG, 2 * GRAM)
     }
 
     // Ten minutes at 20 °C, for which the rate constants hold: all factors are 10^6 but light's. That is a half, I /
     // (I + KI) of document 000, appendix 2, where the light I is 500 W/m², as KI is in Table 8.
-    fn step(mut self, rt: &impl Print) -> Result<Day> {
+    fn step(mut self) -> Result<Day<'a, P>> {
         let set = self.set;
         let before = self.river;
         let given = Conditions {
@@ -99,58 +97,58 @@ impl Day {
             temperatures: Temperatures::all(1000000),
         };
         let answer = step::step_river(set, before, given);
-        println!(rt; "step {}", number_of(&answer))?;
+        println!(self.rt; "step {}", number_of(&answer))?;
         self.river = answer.unwrap_or(before);
         Ok(self)
     }
 
     // A twentieth of each cell passes down.
-    fn flow(mut self, rt: &impl Print) -> Result<Day> {
+    fn flow(mut self) -> Result<Day<'a, P>> {
         let before = self.river;
         let answer = transport::flow_river(before, 500);
-        println!(rt; "flow {}", number_of(&answer))?;
+        println!(self.rt; "flow {}", number_of(&answer))?;
         if let Ok(flowed) = answer {
             self.river = flowed.river;
         }
         Ok(self)
     }
 
-    fn air(mut self, rt: &impl Print, cell: u32) -> Result<Day> {
+    fn air(mut self, cell: u32) -> Result<Day<'a, P>> {
         let before = self.river;
         let answer = transport::air_river(before, cell, AIR_CONSTANT, 600, SATURATION);
-        println!(rt; "air {}", number_of(&answer))?;
+        println!(self.rt; "air {}", number_of(&answer))?;
         if let Ok(aired) = answer {
             self.river = aired.river;
         }
         Ok(self)
     }
 
-    fn ten_minutes(self, rt: &impl Print) -> Result<Day> {
-        self.step(rt)?.flow(rt)?.air(rt, 1)?.air(rt, 2)
+    fn ten_minutes(self) -> Result<Day<'a, P>> {
+        self.step()?.flow()?.air(1)?.air(2)
     }
 
-    pub(crate) fn hour(self, rt: &impl Print) -> Result<Day> {
+    pub(crate) fn hour(self) -> Result<Day<'a, P>> {
         let mut day = self;
         for _ in 0..6 {
-            day = day.ten_minutes(rt)?;
+            day = day.ten_minutes()?;
         }
         Ok(day)
     }
 
-    fn letter(self, cell: u32) -> std::result::Result<Letter, Refusal> {
+    fn letter(&self, cell: u32) -> std::result::Result<Letter, Refusal> {
         river::letter_of(self.river, cell)
     }
 
     // The levels and the letter of each cell, and the record.
-    pub(crate) fn write(self, rt: &impl Print) -> Result<()> {
+    pub(crate) fn write(self) -> Result<()> {
         let river = self.river;
-        write_levels(rt, &river.amounts)?;
-        write_letters(rt, self.letter(1)?.byte(), self.letter(2)?.byte())?;
+        write_levels(self.rt, &river.amounts)?;
+        write_letters(self.rt, self.letter(1)?.byte(), self.letter(2)?.byte())?;
         let mut output = [0; BYTES];
         let mut work = [0; BYTES];
         let written = record::write_record(river, &mut output, &mut work);
-        println!(rt; "record {}", number_of(&written))?;
-        rt.write_all(&output)?;
+        println!(self.rt; "record {}", number_of(&written))?;
+        self.rt.write_all(&output)?;
         Ok(())
     }
 }

@@ -1,7 +1,4 @@
 // What two cells hold, by names: the level of each substance that has one, in g/m³.
-ghost use Rattle.std.specs.Prelude.{◌<◌};
-ghost use Rattle.stoichiometry.specs.Substances.{substances};
-
 use river::AMOUNTS;
 use std::fmt;
 use std::io::Result;
@@ -18,39 +15,38 @@ impl fmt::Display for Level {
     }
 }
 
-// A line: the name of the substance at a place, and its level in each cell.
-fn write_level(
-    rt: &impl Print,
-    name: &str,
-    amounts: &[i64; AMOUNTS],
-    at: usize,
-    microgram: Microgram,
-) -> Result<()>
-    requires { at < substances }
-{
-    let first = Level(microgram.level(amounts[at]));
-    let second = Level(microgram.level(amounts[SUBSTANCES + at]));
-    println!(rt; "{name:<6}{first}{second}")
+// The level at a place of a cell's amounts; 0 where there is no such place.
+fn level_at(cell: &[i64], at: usize, microgram: Microgram) -> Level {
+    Level(microgram.level(cell.get(at).copied().unwrap_or(0)))
 }
 
-// A line for each substance that has a level, each a call: of the entries of a list it would not be known that the
-// places are in range. The nitrogen is in g of N, the phosphate in g of P.
+// A line for each substance that has a level: its name, and its level in each cell. The nitrogen is in g of N, the
+// phosphate in g of P.
 pub(crate) fn write_levels(rt: &impl Print, amounts: &[i64; AMOUNTS]) -> Result<()> {
     println!(rt; "g/m3      cell 1    cell 2")?;
-    write_level(rt, "SS", amounts, place::SS, Organic)?;
-    write_level(rt, "SI", amounts, place::SI, Organic)?;
-    write_level(rt, "NH4-N", amounts, place::NH4, Nitrogen)?;
-    write_level(rt, "NO2-N", amounts, place::NO2, Nitrogen)?;
-    write_level(rt, "NO3-N", amounts, place::NO3, Nitrogen)?;
-    write_level(rt, "PO4-P", amounts, place::HPO4, Phosphorus)?;
-    write_level(rt, "O2", amounts, place::O2, Oxygen)?;
-    write_level(rt, "XH", amounts, place::XH, Organic)?;
-    write_level(rt, "XN1", amounts, place::XN1, Organic)?;
-    write_level(rt, "XN2", amounts, place::XN2, Organic)?;
-    write_level(rt, "XALG", amounts, place::XALG, Organic)?;
-    write_level(rt, "XS", amounts, place::XS, Organic)?;
-    write_level(rt, "XI", amounts, place::XI, Organic)?;
-    write_level(rt, "XP", amounts, place::XP, Phosphorus)
+    let (first, others) = amounts.split_at(SUBSTANCES);
+    let substances = [
+        ("SS", place::SS, Organic),
+        ("SI", place::SI, Organic),
+        ("NH4-N", place::NH4, Nitrogen),
+        ("NO2-N", place::NO2, Nitrogen),
+        ("NO3-N", place::NO3, Nitrogen),
+        ("PO4-P", place::HPO4, Phosphorus),
+        ("O2", place::O2, Oxygen),
+        ("XH", place::XH, Organic),
+        ("XN1", place::XN1, Organic),
+        ("XN2", place::XN2, Organic),
+        ("XALG", place::XALG, Organic),
+        ("XS", place::XS, Organic),
+        ("XI", place::XI, Organic),
+        ("XP", place::XP, Phosphorus),
+    ];
+    for (name, at, microgram) in substances {
+        let in_first = level_at(first, at, microgram);
+        let in_second = level_at(others, at, microgram);
+        println!(rt; "{name:<6}{in_first}{in_second}")?;
+    }
+    Ok(())
 }
 
 // The line of the letters, below the levels.

@@ -10,5 +10,5 @@ mod levels;
 use anyhow::Result;
 
 fn main(rt: HostRuntime) -> Result<()> {
-    day::Day::start(&rt)?.loaded(&rt)?.hour(&rt)?.write(&rt)
+    day::Day::start(&rt)?.loaded()?.hour()?.write()
 }
