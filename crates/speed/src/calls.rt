@@ -1,6 +1,6 @@
 // The calls of each kind. The rivers, the sets and the records are made before the first turn. What a turn does is in
 // turns.rt.
-use crate::checksum::{checksum, with};
+use crate::checksum::Checksum;
 use crate::frames::readings;
 use crate::order::{Kind, Order};
 use crate::records::{BYTES, PAGE_BYTES, records_of};
@@ -15,23 +15,23 @@ use stoichiometry::Refusal;
 fn steps(turns: u64) -> Result<u64, Refusal> {
     let sets = sets()?;
     let rivers = rivers();
-    Ok(checksum(turns, &sets, |set, sum, turn| {
-        step_turn(*set, rivers[(turn % 8) as usize], sum, turn)
+    Ok(Checksum::of_turns(turns, &sets, |set, before| {
+        step_turn(*set, rivers[(before.turn % 8) as usize], before)
     }))
 }
 
 fn writes(turns: u64) -> u64 {
     let mut output = [0; BYTES];
     let mut work = [0; BYTES];
-    checksum(turns, &rivers(), |river, sum, turn| {
-        write_turn(*river, &mut output, &mut work, sum, turn)
+    Checksum::of_turns(turns, &rivers(), |river, before| {
+        write_turn(*river, &mut output, &mut work, before)
     })
 }
 
 fn pages(turns: u64) -> u64 {
     let mut output = [0; PAGE_BYTES];
-    checksum(turns, &rivers(), |river, sum, turn| {
-        page_turn(*river, &mut output, sum, turn)
+    Checksum::of_turns(turns, &rivers(), |river, before| {
+        page_turn(*river, &mut output, before)
     })
 }
 
@@ -40,28 +40,28 @@ pub(crate) fn checksum_of(order: Order) -> Result<u64, Refusal> {
     let turns = order.turns;
     // The arms take different arguments, so that a table of closures is no plainer.
     let sum = match order.kind {
-        Kind::Nothing => checksum(turns, &rivers(), |river, sum, _| {
-            with(sum, u64::from(river.cells))
+        Kind::Nothing => Checksum::of_turns(turns, &rivers(), |river, before| {
+            before.with(u64::from(river.cells))
         }),
         Kind::Step => steps(turns)?,
-        Kind::Flow => checksum(turns, &rivers(), |river, sum, turn| {
-            flow_turn(*river, sum, turn)
+        Kind::Flow => Checksum::of_turns(turns, &rivers(), |river, before| {
+            flow_turn(*river, before)
         }),
-        Kind::Air => checksum(turns, &rivers(), |river, sum, turn| {
-            air_turn(*river, sum, turn)
+        Kind::Air => Checksum::of_turns(turns, &rivers(), |river, before| {
+            air_turn(*river, before)
         }),
-        Kind::Load => checksum(turns, &rivers(), |river, sum, turn| {
-            load_turn(*river, sum, turn)
+        Kind::Load => Checksum::of_turns(turns, &rivers(), |river, before| {
+            load_turn(*river, before)
         }),
-        Kind::Rows => checksum(turns, &sets()?, |set, sum, turn| {
-            rows_turn(*set, sum, turn)
+        Kind::Rows => Checksum::of_turns(turns, &sets()?, |set, before| {
+            rows_turn(*set, before)
         }),
         Kind::Write => writes(turns),
-        Kind::Read => checksum(turns, &records_of(rivers()), |record, sum, turn| {
-            read_turn(record, sum, turn)
+        Kind::Read => Checksum::of_turns(turns, &records_of(rivers()), |record, before| {
+            read_turn(record, before)
         }),
-        Kind::Frame => checksum(turns, &[readings()], |readings, sum, turn| {
-            frame_turn(readings, sum, turn)
+        Kind::Frame => Checksum::of_turns(turns, &[readings()], |readings, before| {
+            frame_turn(readings, before)
         }),
         Kind::Page => pages(turns),
     };

@@ -1,60 +1,83 @@
 // The checksum of answers. What it takes of an answer depends on the turn, so that no part of it can be left out.
 ghost use Rattle.std.specs.Prelude.{◌<◌, length};
 
-use river::{AMOUNTS, CARRIES};
-use stoichiometry::SUBSTANCES;
+use river::{AMOUNTS, CARRIES, River};
+use stoichiometry::{Refusal, SUBSTANCES, number_of};
 
-// The checksum of so many turns, each of which adds to it. They take what is prepared for them in turn.
-pub(crate) fn checksum<P, F: FnMut(&P, u64, u64) -> u64>(
-    turns: u64,
-    prepared: &[P],
-    mut turn: F,
-) -> u64
-    requires prepared { 0 < length prepared.now }
-    requires callable { F.IsAlwaysCallable turn }
-{
-    let count = prepared.len() as u64;
-    let mut sum = 0;
-    for i in 0..turns {
-        sum = turn(&prepared[(i % count) as usize], sum, i);
+// The checksum so far, and the number of the turn that adds to it.
+#[derive(Clone, Copy)]
+pub(crate) struct Checksum {
+    sum: u64,
+    pub turn: u64,
+}
+
+impl Checksum {
+    // The checksum of so many turns. They take what is prepared for them in turn.
+    pub(crate) fn of_turns<P, F: FnMut(&P, Checksum) -> Checksum>(
+        turns: u64,
+        prepared: &[P],
+        mut add: F,
+    ) -> u64
+        requires prepared { 0 < length prepared.now }
+        requires callable { F.IsAlwaysCallable add }
+    {
+        let count = prepared.len() as u64;
+        let mut sum = 0;
+        for turn in 0..turns {
+            let before = Checksum { sum, turn };
+            sum = add(&prepared[(turn % count) as usize], before).sum;
+        }
+        sum
     }
-    sum
-}
 
-// The checksum with one number more. It is turned by a bit first, so that the order of the numbers counts.
-pub(crate) fn with(sum: u64, number: u64) -> u64 {
-    sum.rotate_left(1).wrapping_add(number)
-}
-
-// The checksum with one signed number more, modulo 2^64.
-pub(crate) fn with_signed(sum: u64, x: i64) -> u64 {
-    with(sum, x.cast_unsigned())
-}
-
-// With the amounts of one substance in all cells.
-pub(crate) fn with_amounts(sum: u64, amounts: &[i64; AMOUNTS], turn: u64) -> u64 {
-    let k = (turn % 18) as usize;
-    let mut with_all = sum;
-    for cell in amounts.chunks_exact(SUBSTANCES) {
-        with_all = with_signed(with_all, cell[k]);
+    // With one number more. The sum is turned by a bit first, so that the order of the numbers counts.
+    pub(crate) fn with(self, number: u64) -> Checksum {
+        Checksum {
+            sum: self.sum.rotate_left(1).wrapping_add(number),
+            ..self
+        }
     }
-    with_all
-}
 
-// With one carry.
-pub(crate) fn with_carry(sum: u64, carries: &[u32; CARRIES], turn: u64) -> u64 {
-    let k = (turn % 136) as usize;
-    with(sum, u64::from(carries[k]))
-}
-
-// With one byte of each cell, of a text that has `width` bytes for each.
-pub(crate) fn with_text(sum: u64, text: &[u8], width: u64, turn: u64) -> u64
-    requires { 0 < width }
-{
-    let k = (turn % width) as usize;
-    let mut with_all = sum;
-    for cell in text.chunks_exact(width as usize) {
-        with_all = with(with_all, u64::from(cell[k]));
+    // With one signed number more, modulo 2^64.
+    pub(crate) fn with_signed(self, x: i64) -> Checksum {
+        self.with(x.cast_unsigned())
     }
-    with_all
+
+    // With the number of an answer.
+    pub(crate) fn with_number_of<T>(self, answer: &Result<T, Refusal>) -> Checksum {
+        self.with(u64::from(number_of(answer)))
+    }
+
+    // With the amounts of one substance in all cells.
+    pub(crate) fn with_amounts(self, amounts: &[i64; AMOUNTS]) -> Checksum {
+        let k = (self.turn % 18) as usize;
+        let mut with_all = self;
+        for cell in amounts.chunks_exact(SUBSTANCES) {
+            with_all = with_all.with_signed(cell[k]);
+        }
+        with_all
+    }
+
+    // With one carry.
+    fn with_carry(self, carries: &[u32; CARRIES]) -> Checksum {
+        let k = (self.turn % 136) as usize;
+        self.with(u64::from(carries[k]))
+    }
+
+    // With the amounts of one substance and one carry of a river.
+    pub(crate) fn with_river(self, river: &River) -> Checksum {
+        self.with_amounts(&river.amounts).with_carry(&river.carries)
+    }
+
+    // With one byte of each cell, of a text that has `width` bytes for each.
+    pub(crate) fn with_text(self, text: &[u8], width: u64) -> Checksum
+        requires { 0 < width }
+    {
+        let k = (self.turn % width) as usize;
+        let mut with_all = self;
+        for cell in text.chunks_exact(width as usize) {
+            with_all = with_all.with(u64::from(cell[k]));
+        }
+        with_all
+    }
 }

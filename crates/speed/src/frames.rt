@@ -1,7 +1,7 @@
 // The frames of the turns: their oxygen is a mass, a percentage and missing in turn.
-use crate::checksum::{with, with_signed};
+use crate::checksum::Checksum;
 use probe::{Amounts, Frame, Oxygen};
-use stoichiometry::{Refusal, number_of};
+use stoichiometry::Refusal;
 
 pub(crate) const READINGS: usize = 16;
 
@@ -31,20 +31,21 @@ pub(crate) fn frame_of(readings: &[f32; READINGS], turn: u64) -> Frame {
     }
 }
 
-fn with_oxygen(sum: u64, oxygen: Option<i64>) -> u64 {
+fn with_oxygen(before: Checksum, oxygen: Option<i64>) -> Checksum {
     match oxygen {
-        Some(grains) => with_signed(sum, grains),
-        None => with(sum, 1),
+        Some(grains) => before.with_signed(grains),
+        None => before.with(1),
     }
 }
 
 // The checksum with everything of an answer; of a refused frame zeros, and no amount of O2.
-pub(crate) fn with_frame(sum: u64, answer: Result<Amounts, Refusal>) -> u64 {
-    let number = with(sum, number_of(&answer) as u64);
+pub(crate) fn with_frame(before: Checksum, answer: &Result<Amounts, Refusal>) -> Checksum {
     let amounts = answer.unwrap_or_default();
-    let ammonium = with_signed(number, amounts.ammonium);
-    let nitrite = with_signed(ammonium, amounts.nitrite);
-    let nitrate = with_signed(nitrite, amounts.nitrate);
-    let phosphate = with_signed(nitrate, amounts.phosphate);
-    with_oxygen(phosphate, amounts.oxygen)
+    let with_four = before
+        .with_number_of(answer)
+        .with_signed(amounts.ammonium)
+        .with_signed(amounts.nitrite)
+        .with_signed(amounts.nitrate)
+        .with_signed(amounts.phosphate);
+    with_oxygen(with_four, amounts.oxygen)
 }
