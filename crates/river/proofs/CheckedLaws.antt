@@ -25,17 +25,18 @@ module _ (r : River) where
   wrong_refused true refusal e = (refl, ap (refusal_in refusal) e)
   wrong_refused false refusal e = absurd (false≢true (ap is_ok e))
 
-  right_passed : (wrong : Bool) (of : River) → Ok of ≡ by_test wrong → of ≡ r
+  right_passed : (wrong : Bool) (of : River) → Ok of ≡ by_test wrong → (wrong ≡ false) × (of ≡ r)
   unfolding by_test first_holding
   right_passed true of e = absurd (true≢false (ap is_ok e))
-  right_passed false of e = ap (λ answer. result_unwrap_or answer r) e
+  right_passed false of e = (refl, ap (λ answer. result_unwrap_or answer r) e)
 
   -- A refused river is wrong, and the refusal is 4.
   pub river_refused : (refusal : Refusal) → Err refusal ≡ checked_answer r → (river_wrong r ≡ true) × (refusal ≡ RiverWrong)
   unfolding checked_answer by_test
   river_refused = wrong_refused (river_wrong r)
 
-  -- A river that passes is the one that was given.
-  pub river_passed : (checked : Checked) → Ok checked.river.now ≡ checked_answer r → checked.river.now ≡ r
+  -- A river that passes is not, and is the one that was given.
+  pub river_passed : (checked : Checked) → Ok checked.river.now ≡ checked_answer r
+      → (river_wrong r ≡ false) × (checked.river.now ≡ r)
   unfolding checked_answer by_test
   river_passed checked = right_passed (river_wrong r) checked.river.now
