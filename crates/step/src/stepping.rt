@@ -8,7 +8,7 @@ use crate::apply::Terms;
 use crate::rates::Rates;
 use crate::split::batches_fit;
 use kinetics::Conditions;
-use river::{AMOUNTS, CARRIES, River};
+use river::{AMOUNTS, CARRIES, Checked};
 use rows::batches_of;
 use stoichiometry::{ENTRIES, Refusal, Set};
 
@@ -18,16 +18,17 @@ pub(crate) fn step_cells(
     set: Set,
     conditions: Conditions,
     entries: &[i64; ENTRIES],
-    river: &River,
+    checked: &Checked,
     amounts: &mut [i64; AMOUNTS],
     rest: &mut [u32; CARRIES],
 ) -> Result<(), Refusal>
-    requires { StepReady set river.now conditions entries.now
+    requires { StepReady set conditions entries.now
         × (amounts.old ≡ zero_amounts) × (rest.old ≡ zero_carries) }
-    ensures batches { result ≡ (if batches_wrong set conditions river.now then Err Batches else Ok tt) }
-    ensures amounts_after { OnOk result (amounts.new ≡ stepped_amounts set conditions river.now) }
-    ensures rest_after { OnOk result (rest.new ≡ stepped_carries set conditions river.now) }
+    ensures batches { result ≡ (if batches_wrong set conditions checked.now.river.now then Err Batches else Ok tt) }
+    ensures amounts_after { OnOk result (amounts.new ≡ stepped_amounts set conditions checked.now.river.now) }
+    ensures rest_after { OnOk result (rest.new ≡ stepped_carries set conditions checked.now.river.now) }
 {
+    let river = checked.river;
     let n = river.cells as usize;
     let mut whole = [0; CARRIES];
     let rates = Rates {
@@ -36,7 +37,7 @@ pub(crate) fn step_cells(
         entries,
         sizes: batches_of(set),
     };
-    rates.make_batches(river, &mut whole, rest);
+    rates.make_batches(checked, &mut whole, rest);
     if !batches_fit(&whole) {
         return Err(Refusal::Batches);
     }

@@ -18,32 +18,32 @@ invariant_of-rates c =
     }
 
 pub make_batches-requires : goal.make_batches-requires
-make_batches-requires c = (c.requires.0.river, refl, c.requires.2)
+make_batches-requires c = (refl, c.requires.2)
 
 pub invariant_of-terms : goal.invariant_of-terms
 invariant_of-terms c =
     let a = c.args in
-    let right = c.requires.0.river in
+    let right = c.args.checked.now.right in
     let whole = c.make_batches.ensures.whole_after in
-    let passed = batches_pass a.set a.conditions a.river.now right _ whole (c.if-not-batches_fit.ensures.0 refl) in
+    let passed = batches_pass a.set a.conditions a.checked.now.river.now right _ whole (c.if-not-batches_fit.ensures.0 refl) in
     record {
-      amounts_fit = record { most = λ k h. amount_bound a.river.now right k h };
-      batches_fit = batches-fit a.set a.conditions a.river.now right _ whole passed;
+      amounts_fit = record { most = λ k h. amount_bound a.checked.now.river.now right k h };
+      batches_fit = batches-fit a.set a.conditions a.checked.now.river.now right _ whole passed;
       entries_fit = c.requires.0.fit;
     }
 
 pub apply_cells-requires : goal.apply_cells-requires
-apply_cells-requires c = ((river-cells c.args.river.now c.requires.0.river).1, c.requires.1)
+apply_cells-requires c = ((river-cells c.args.checked.now.river.now c.args.checked.now.right).1, c.requires.1)
 
 pub returns : goal.returns
 returns c =
     let a = c.args in
-    let right = c.requires.0.river in
+    let right = c.args.checked.now.right in
     let whole = c.make_batches.ensures.whole_after in
-    let passed = batches_pass a.set a.conditions a.river.now right _ whole (c.if-not-batches_fit.ensures.0 refl) in
+    let passed = batches_pass a.set a.conditions a.checked.now.river.now right _ whole (c.if-not-batches_fit.ensures.0 refl) in
     record {
       batches = rw passed refl;
-      amounts_after = amounts_are a.set a.conditions a.river.now right _ whole _ _ c.requires.0.ready.rows c.apply_cells.ensures;
+      amounts_after = amounts_are a.set a.conditions a.checked.now.river.now right _ whole _ _ c.requires.0.ready.rows c.apply_cells.ensures;
       rest_after = c.make_batches.ensures.rest_after;
     }
 
@@ -51,6 +51,6 @@ pub returns-then-not-batches_fit : goal.returns-then-not-batches_fit
 returns-then-not-batches_fit c =
     let a = c.args in
     let many =
-    batches_many a.set a.conditions a.river.now c.requires.0.river _ c.make_batches.ensures.whole_after
+    batches_many a.set a.conditions a.checked.now.river.now c.args.checked.now.right _ c.make_batches.ensures.whole_after
     (λ pass. true≢false (sym (c.if-not-batches_fit.ensures.1 pass))) in
     record { batches = rw many refl; amounts_after = tt; rest_after = tt }

@@ -14,29 +14,29 @@ use Rattle.step.proofs.rates.Rates.make_batches.Goals as goal
 pub loop-c-init : goal.loop-c-init
 loop-c-init c =
     record {
-      made = rw c.requires.1 (rows_none most_cells processes _ (pos 0) _);
-      left = rw c.requires.2 (rows_none most_cells processes _ 0 _);
+      made = rw c.requires.0 (rows_none most_cells processes _ (pos 0) _);
+      left = rw c.requires.1 (rows_none most_cells processes _ 0 _);
     }
 
 pub invariant_of-cell : goal.invariant_of-cell
 invariant_of-cell c =
-    record { fits = cell_fits_lem c.args.river.now c.requires.0 c.loop-c.c c.loop-c-test.true }
+    record { fits = cell_fits_lem c.args.checked.now.river.now c.args.checked.now.right c.loop-c.c c.loop-c-test.true }
 
 pub split-requires : goal.split-requires
 split-requires c =
-    let r = c.args.river.now in
-    let fits = cell_fits_lem r c.requires.0 c.loop-c.c c.loop-c-test.true in
+    let r = c.args.checked.now.river.now in
+    let fits = cell_fits_lem r c.args.checked.now.right c.loop-c.c c.loop-c-test.true in
     let small = extents_fit _ _ fits c.args.self.now.set c.args.self.now.conditions _ c.args.self.now.ready in (
       omega (arith, fits.cell),
       rw c.cell_extents-extents.ensures small,
-      record { most = λ k h. carry_bound r c.requires.0 k h },
+      record { most = λ k h. carry_bound r c.args.checked.now.right k h },
     )
 
 pub loop-c-preserved : goal.loop-c-preserved
 loop-c-preserved c =
     let a = c.args in
-    let r = a.river.now in
-    let cells = (river-cells r c.requires.0).1 in
+    let r = a.checked.now.river.now in
+    let cells = (river-cells r c.args.checked.now.right).1 in
     let inv = c.loop-c.invariant in
     let extents = c.cell_extents-extents.ensures in
     record {
@@ -53,7 +53,7 @@ loop-c-preserved c =
 pub returns : goal.returns
 unfolding stepped_carries
 returns c =
-    let n = c.args.river.now.cells in
+    let n = c.args.checked.now.river.now.cells in
     let finished : c.loop-c.c ≡ n = omega arith in
     record {
       whole_after = rows_done most_cells processes n (pos 0) _ _ _ (lit< tt) finished c.loop-c.invariant.made;

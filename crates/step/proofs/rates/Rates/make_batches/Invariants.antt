@@ -11,8 +11,8 @@ use Rattle.step.proofs.rates.Rates.make_batches.Given as goal
 abbrev pub invariant-loop-c : goal.invariant-loop-c
 invariant-loop-c l =
     record {
-      made : RowsFilled most_cells processes l.river.cells (pos 0) (whole_at l.self.set l.self.conditions l.river) l.c l.whole;
+      made : RowsFilled most_cells processes l.checked.river.now.cells (pos 0) (whole_at l.self.set l.self.conditions l.checked.river.now) l.c l.whole;
       left :
-          RowsFilled most_cells processes l.river.cells 0
-          (λ c. new_carry l.self.set l.self.conditions (amount_at l.river.amounts c) (carry_at l.river.carries c)) l.c l.rest;
+          RowsFilled most_cells processes l.checked.river.now.cells 0
+          (λ c. new_carry l.self.set l.self.conditions (amount_at l.checked.river.now.amounts c) (carry_at l.checked.river.now.carries c)) l.c l.rest;
     }
