@@ -3,7 +3,7 @@
 ghost use Rattle.std.specs.Prelude.{◌≡◌, ◌<◌, length};
 ghost use Rattle.text.specs.Inner.Stages.{digits_over, pair, four};
 
-use crate::writing::write_singles;
+use crate::writing::Figure;
 
 // Two digits.
 pub(crate) fn pair(n: u32) -> [u8; 2]
@@ -29,38 +29,45 @@ pub(crate) fn four(n: u32) -> [u8; 4]
     bytes.to_le_bytes()
 }
 
-// The mark in the last column.
-pub(crate) fn write_mark(out: &mut [u8], mark: u8)
-    ensures { out.new ≡ digits_over (length out.old) out.old mark 0 }
-{
-    if let Some(last) = out.last_mut() {
-        *last = mark;
+impl Figure {
+    // The mark in the last column.
+    pub(crate) fn write_mark(self, out: &mut [u8])
+        ensures { out.new ≡ digits_over (length out.old) out.old self.mark 0 }
+    {
+        if let Some(last) = out.last_mut() {
+            *last = self.mark;
+        }
     }
-}
 
-// A number of at most four digits and its mark. Both pairs are written here, since a loop over them takes longer.
-pub(crate) fn write_pairs(out: &mut [u8], mark: u8, n: u32)
-    requires { n < 10000 }
-    ensures { out.new ≡ digits_over (length out.old) out.old mark n }
-{
-    if n < 10 {
-        write_singles(out, mark, u64::from(n));
-        return;
+    // A number of at most four digits and its mark. Both pairs are written here, since a loop over them takes longer.
+    pub(crate) fn write_pairs(self, out: &mut [u8])
+        requires { self.n < 10000 }
+        ensures { out.new ≡ digits_over (length out.old) out.old self.mark self.n }
+    {
+        if self.n < 10 {
+            self.write_singles(out);
+            return;
+        }
+        let Some((before, last)) = out.split_last_chunk_mut::<2>() else {
+            self.write_singles(out);
+            return;
+        };
+        let n = self.n as u32;
+        let hundreds = n / 100;
+        *last = pair(n - hundreds * 100);
+        let front = Figure {
+            n: u64::from(hundreds),
+            ..self
+        };
+        if hundreds < 10 {
+            front.write_singles(before);
+            return;
+        }
+        let Some((blank, first)) = before.split_last_chunk_mut::<2>() else {
+            front.write_singles(before);
+            return;
+        };
+        *first = pair(hundreds);
+        self.write_mark(blank);
     }
-    let Some((before, last)) = out.split_last_chunk_mut::<2>() else {
-        write_singles(out, mark, u64::from(n));
-        return;
-    };
-    let hundreds = n / 100;
-    *last = pair(n - hundreds * 100);
-    if hundreds < 10 {
-        write_singles(before, mark, u64::from(hundreds));
-        return;
-    }
-    let Some((front, first)) = before.split_last_chunk_mut::<2>() else {
-        write_singles(before, mark, u64::from(hundreds));
-        return;
-    };
-    *first = pair(hundreds);
-    write_mark(front, mark);
 }

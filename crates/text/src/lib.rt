@@ -7,7 +7,7 @@ ghost use Rattle.text.specs.Writes.{put_within, copied};
 ghost use Rattle.text.specs.Decimals.{plain, decimal};
 
 use crate::digits::pair;
-use crate::writing::{mark_of, write_plain};
+use crate::writing::{Figure, mark_of};
 use numeric::magnitude;
 
 mod digits;
@@ -17,7 +17,11 @@ mod writing;
 pub fn write_value(columns: &mut [u8], value: i64)
     ensures columns { columns.new ≡ decimal (length columns.old) value }
 {
-    write_plain(columns, mark_of(value), magnitude(value));
+    let figure = Figure {
+        mark: mark_of(value),
+        n: magnitude(value),
+    };
+    figure.write_plain(columns);
 }
 
 // The value in `width` columns from `at` on, where they are all there. Kept beside `write_value` for callers that have a
