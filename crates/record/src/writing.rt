@@ -1,12 +1,14 @@
 // Lines written into lent bytes, cell by cell.
-ghost use Rattle.std.specs.Prelude.{◌≡◌, ◌*◌, ◌≤◌, ◌<◌, length};
+ghost use Rattle.std.specs.Prelude.{◌≡◌, ◌*◌, ◌+◌, ◌≤◌, ◌<◌, length};
 ghost use Rattle.river.specs.Rivers.{most_cells};
 ghost use Rattle.text.specs.Writes.{put};
+ghost use Rattle.text.specs.Decimals.{plain};
 ghost use Rattle.record.specs.Lines.{cell_text, value_of, record_of, lines, line_bytes, cell_bytes};
 ghost use Rattle.record.specs.Inner.Stages.{Labels, labelled};
 
 use crate::Record;
 use river::{Checked, River};
+use std::array;
 use stoichiometry::{PROCESSES, SUBSTANCES};
 use text::{two_columns, write_value};
 
@@ -16,11 +18,11 @@ type Labels = [[u8; 2]; Record::LINES];
 fn line_labels() -> Labels
     ensures { Labels result }
 {
-    let mut labels = [[0; 2]; Record::LINES];
-    for k in 0..Record::LINES {
-        labels[k] = two_columns((k + 1) as u32);
-    }
-    labels
+    let label = |k|
+        requires { k < lines }
+        ensures { result ≡ plain 2 32 (k + 1) }
+    { two_columns((k + 1) as u32) };
+    array::from_fn(label)
 }
 
 // One line over its bytes: its cell, its label, its value and the line feed.

@@ -7,6 +7,7 @@ use mathlib.Core.Path.{◌≡◌, refl, sym, ap, ap₂, ◌∙◌}
 use native.Mathlib.Nat.{suc-mul, zero-mul, add-suc, add-zero, mul-le-mul_right, eq-or-lt_of_le, le_of_suc-le-suc}
 use native.Mathlib.Numerals.{add-one}
 use native.Mathlib.Omega.{arith}
+use borrow.Rule.Slice.PartMut.{put_mid}
 use lib.Arith.{digits_div, digits_mod}
 use lib.ListN.{length, take, drop, get_or, length-append, length-take, length-drop}
 use lib.Seq.{drop_at, take-add, take_all, take-append-le, drop-append-le, get_or-take, get_or-drop}
@@ -14,7 +15,7 @@ use Rattle.numeric.specs.Table.{tab}
 use Rattle.numeric.proofs.TableLaws.{tab_of_list, tab_eq}
 use Rattle.text.specs.Blocks.{blocks, part}
 use Rattle.text.specs.Writes.{put}
-use Rattle.text.proofs.WriteLaws.{put_all, grow}
+use Rattle.text.proofs.WriteLaws.{put-none, put_all, mid_written, grow}
 
 pub blocks-length : (w m : ℕ) (f : ℕ → List ℕ) → ((i : ℕ) → length (f i) ≡ w) → length (blocks m f) ≡ m * w
 unfolding blocks
@@ -72,16 +73,22 @@ blocks-parts w f t zero h = rw zero-mul
 blocks-parts w f t (suc m) h =
     rw (suc-mul, take-add) (ap₂ ◌++◌ (blocks-parts w f t m (λ i l. h i (omega arith))) (h m (omega arith)))
 
--- Blocks of one width written: one more behind the first k, and all over a text of their length.
-module _ (w : ℕ) (f : ℕ → List ℕ) (each : (i : ℕ) → length (f i) ≡ w) (l₀ l : List ℕ) where
-  pub blocks_turn : (l₁ : List ℕ) (at m k : ℕ) → m ≡ at + k * w → at + k * w + w ≤ length l₀
-      → l ≡ put l₀ at (blocks k f)
-      → l₁ ≡ put l m (f k)
-      → l₁ ≡ put l₀ at (blocks (k + 1) f)
+-- Blocks of one width written over the start of a text, one after the other: none, one more over its part, and all that
+-- the text has room for.
+module _ (w : ℕ) (f : ℕ → List ℕ) (each : (i : ℕ) → length (f i) ≡ w) (l₀ : List ℕ) where
+  pub no_block : l₀ ≡ put l₀ 0 (blocks 0 f)
   unfolding blocks
-  blocks_turn l₁ at m k em h e e₁ =
-      rw (add-one k) (e₁ ∙ grow l₀ l at (k * w) m (blocks k f) (f k) (blocks-length w k f each) em (omega arith) e)
+  no_block = sym (put-none l₀ 0)
 
-  pub blocks_written : (k n : ℕ) → k ≡ n → length l₀ ≡ n * w → l ≡ put l₀ 0 (blocks k f) → l ≡ blocks n f
-  blocks_written k n e long written =
-      rw e at written ∙ put_all l₀ (blocks n f) (blocks-length w n f each ∙ sym long)
+  pub next_block : (l ys : List ℕ) (k len : ℕ) → len ≡ w → k * w + w ≤ length l₀
+      → l ≡ put l₀ 0 (blocks k f)
+      → ys ≡ f k
+      → put_mid (k * w) len l ys ≡ put l₀ 0 (blocks (k + 1) f)
+  unfolding blocks
+  next_block l ys k len long room e e₁ =
+      rw (add-one k)
+      (mid_written l ys (f k) (k * w) len w (each k) long e₁
+      ∙ grow l₀ l 0 (k * w) (k * w) (blocks k f) (f k) (blocks-length w k f each) (omega arith) (omega arith) e)
+
+  pub all_blocks : (l : List ℕ) (n : ℕ) → length l₀ ≡ n * w → l ≡ put l₀ 0 (blocks n f) → l ≡ blocks n f
+  all_blocks l n long e = e ∙ put_all l₀ (blocks n f) (blocks-length w n f each ∙ sym long)

@@ -1,25 +1,21 @@
 -- `write_rows` meets its contract: one row more. No assumptions.
 use Rattle.std.proofs.Common.{◌≡◌, ℕ, ◌+◌, ◌*◌, ◌≤◌, sym, ap, ◌∙◌, arith, length, length-take, length-drop}
 use Rattle.text.specs.Blocks.{blocks}
-use Rattle.text.proofs.BlockLaws.{blocks_turn}
-use Rattle.text.proofs.WriteLaws.{put-none, mid_written}
+use Rattle.text.proofs.BlockLaws.{no_block, next_block}
 use Rattle.text.specs.Writes.{put}
 use Rattle.page.specs.Pages.{row_bytes, row_of, page_of}
 use Rattle.page.proofs.PageLaws.{row_of-length, cell_fits_lem}
 use Rattle.page.proofs.writing.write_rows.Goals as goal
 
 pub loop-c-init : goal.loop-c-init
-unfolding blocks
-loop-c-init c = sym (put-none _ _)
+loop-c-init c = no_block row_bytes _ (row_of-length c.args.checked.now.river.now.amounts) c.args.out.now
 
 pub loop-c-preserved : goal.loop-c-preserved
 loop-c-preserved c =
     let n = c.loop-c.c in
-    let each = row_of-length c.args.checked.now.river.now.amounts in
-    let written = mid_written c.loop-c.out _ _ (n * row_bytes) _ row_bytes (each n) (omega arith) c.write_cell.ensures in
     let room : n * row_bytes + row_bytes ≤ length c.args.out.now = omega arith in
-    blocks_turn row_bytes _ each c.args.out.now c.loop-c.out _ 0 (n * row_bytes) n (omega arith) (omega arith)
-    c.loop-c.invariant written
+    next_block row_bytes _ (row_of-length c.args.checked.now.river.now.amounts) c.args.out.now c.loop-c.out _ n _ (omega arith)
+    room c.loop-c.invariant c.write_cell.ensures
 
 pub invariant_of-cell : goal.invariant_of-cell
 invariant_of-cell c = record { fits = cell_fits_lem c.args.checked.now.river.now c.args.checked.now.right c.loop-c.c c.loop-c-test.true }
