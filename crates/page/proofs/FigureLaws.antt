@@ -8,6 +8,7 @@ use native.Mathlib.Omega.{arith}
 use borrow.Author.Tests.{eqb-true}
 use lib.Dec.{eqb}
 use lib.ListN.{get_or}
+use Rattle.std.specs.List.{flat_map}
 use Rattle.numeric.specs.Check.{every}
 use Rattle.numeric.proofs.CheckLaws.{and_left, and_right, every_at}
 use Rattle.text.specs.Decimals.{glyph}
@@ -51,11 +52,11 @@ glyph_some zero h = absurd (omega arith)
 glyph_some (suc r) h = refl
 
 -- Whole grams of at most two digits, and of three or four.
-pub whole_short : (grams : ℕ) → grams < 100 → (32 ∷ 32 ∷ []) ++ justified_of grams ≡ whole_of grams
+pub whole_short : (grams : ℕ) → grams < 100 → (32 ∷ 32 ∷ []) ∷ justified_of grams ∷ [] ≡ whole_of grams
 whole_short grams small =
     rw (glyph_zero (grams / 1000) 32 (omega arith), glyph_zero (grams / 100) 32 (omega arith)) refl
 
-pub whole_long : (grams : ℕ) → 100 ≤ grams → justified_of (grams / 100) ++ pair_of (grams % 100) ≡ whole_of grams
+pub whole_long : (grams : ℕ) → 100 ≤ grams → justified_of (grams / 100) ∷ pair_of (grams % 100) ∷ [] ≡ whole_of grams
 whole_long grams large =
     let thousands : grams / 100 / 10 ≡ grams / 1000 = omega arith in
     let tens : grams % 100 / 10 ≡ grams / 10 % 10 = omega arith in
@@ -70,7 +71,7 @@ whole_long grams large =
 
 -- The thousandths of a gram behind the point.
 pub rest_figures : (level : ℕ) → let n = level / 1000 in let rest = n - n / 1000 * 1000 in
-    whole_of (n / 1000) ++ (46 ∷ (48 + rest / 100) ∷ pair_of (rest % 100)) ≡ figures_of level
+    flat_map (λ pair. pair) (whole_of (n / 1000)) ++ (46 ∷ (48 + rest / 100) ∷ pair_of (rest % 100)) ≡ figures_of level
 unfolding figures_of
 rest_figures level =
     let n = level / 1000 in

@@ -1,5 +1,5 @@
 -- What the writes leave in the output: a level, a row; and the number of a write by its checks. No assumptions.
-use Prim.Native.Nat.{ℕ, ◌+◌, ◌-◌, ◌*◌, ◌/◌, ◌%◌, ◌≤◌, ◌<◌}
+use Prim.Native.Nat.{ℕ, ◌+◌, ◌*◌, ◌/◌, ◌%◌, ◌≤◌, ◌<◌}
 use mathlib.Core.Bool.{Bool, true, false, cond}
 use mathlib.Core.List.{List, [], ◌∷◌, ◌++◌}
 use mathlib.Core.Path.{◌≡◌, refl, sym, ap, ap₂, ◌∙◌}
@@ -12,55 +12,14 @@ use lib.Seq.{sets}
 use Rattle.numeric.specs.Check.{first_holding}
 use Rattle.river.specs.declared.River.{River}
 use Rattle.river.specs.Rivers.{river_wrong}
-use Rattle.stoichiometry.specs.Levels.{most_level}
 use Rattle.text.specs.Decimals.{columns, plain}
 use Rattle.text.specs.Writes.{put}
 use Rattle.text.proofs.DecimalLaws.{glyph_zero}
-use Rattle.text.proofs.WriteLaws.{put-length, put_all, grow, store, sets_put, two_stored, mid_written}
-use Rattle.page.specs.Pages.{level_columns, row_bytes, grams, letter_columns, row, page_of}
+use Rattle.text.proofs.WriteLaws.{put_all, grow, store, sets_put, mid_written}
+use Rattle.page.specs.Pages.{row_bytes, letter_columns, row, page_of}
 use Rattle.page.specs.Writing.{page_number, page_after}
-use Rattle.page.specs.Inner.Stages.{levels_text, pair_of, whole_of}
-use Rattle.page.proofs.FigureLaws.{rest_figures}
-use Rattle.page.proofs.LevelLaws.{grams_split}
+use Rattle.page.specs.Inner.Stages.{levels_text}
 use Rattle.page.proofs.RowLaws.{levels-length, row-length}
-
--- Four columns in two writes of two.
-pub four_written : (base l ys a b : List ℕ) → length base ≡ 4 → length a ≡ 2 → length b ≡ 2 → l ≡ put base 0 a → ys ≡ b
-    → put_mid 2 (length l - 2) l ys ≡ a ++ b
-four_written base l ys a b long la lb first e =
-    let same : length l ≡ length base = ap length first ∙ put-length base 0 a (omega arith) in
-    mid_written l ys b 2 (length l - 2) 2 lb (omega arith) e
-    ∙ grow base l 0 2 2 a b la refl (omega arith) first
-    ∙ put_all base (a ++ b) (length-append a b ∙ omega arith)
-
--- A level over its columns: two blanks, the whole grams, the point, and the thousandths behind it.
-module _ (l w ys : List ℕ) (level : ℕ) (long : length l ≡ level_columns) (within : level ≤ most_level) where
-  abbrev whole : ℕ
-  whole = level / 1000 / 1000
-
-  abbrev rest : ℕ
-  rest = level / 1000 - whole * 1000
-
-  abbrev stored : List ℕ
-  stored = set (set (put_mid 2 4 (set (set l 0 32) 1 32) w) 6 46) 7 (48 + rest / 100)
-
-  pub grams_written : w ≡ whole_of whole → ys ≡ pair_of (rest % 100) → put_mid 8 (length stored - 8) stored ys ≡ grams level
-  grams_written first last =
-      let blank : List ℕ = 32 ∷ 32 ∷ [] in
-      let six : List ℕ = blank ++ whole_of whole in
-      let seven : List ℕ = six ++ (46 ∷ []) in
-      let eight : List ℕ = seven ++ ((48 + rest / 100) ∷ []) in
-      let two : set (set l 0 32) 1 32 ≡ put l 0 blank = two_stored l 0 32 32 (omega arith) in
-      let wrote : put_mid 2 4 (set (set l 0 32) 1 32) w ≡ put l 0 six =
-      mid_written _ w (whole_of whole) 2 4 4 refl refl first ∙ grow l _ 0 2 2 blank (whole_of whole) refl refl (omega arith) two in
-      let point = store l _ 0 6 6 46 six refl refl (omega arith) wrote in
-      let tenths : stored ≡ put l 0 eight = store l _ 0 7 7 (48 + rest / 100) seven refl refl (omega arith) point in
-      let same : length stored ≡ length l = ap length tenths ∙ put-length l 0 eight (omega arith) in
-      mid_written stored ys (pair_of (rest % 100)) 8 (length stored - 8) 2 refl (omega arith) last
-      ∙ grow l stored 0 8 8 eight (pair_of (rest % 100)) refl refl (omega arith) tenths
-      ∙ put_all l (eight ++ pair_of (rest % 100)) (sym long)
-      ∙ ap (λ (x : List ℕ). 32 ∷ 32 ∷ x) (rest_figures level)
-      ∙ sym (grams_split level within)
 
 -- A cell below 10 in its two columns.
 cell-columns : (cell : ℕ) → cell < 10 → plain 2 32 cell ≡ 32 ∷ (48 + cell) ∷ []

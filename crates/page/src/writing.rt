@@ -1,5 +1,6 @@
 // Rows written into lent bytes, cell by cell.
 ghost use Rattle.std.specs.Prelude.{◌≡◌, ◌*◌, ◌/◌, ◌≤◌, ◌<◌, nat_abs, length};
+ghost use Rattle.std.specs.List.{flat_map};
 ghost use Rattle.stoichiometry.specs.Substances.{substances};
 ghost use Rattle.stoichiometry.specs.Levels.{in_microgram, most_level};
 ghost use Rattle.stoichiometry.specs.Totals.{amount_at};
@@ -94,36 +95,29 @@ fn justified(n: u32) -> [u8; 2]
     JUSTIFIED[n as usize]
 }
 
-// The whole grams of a level over their four columns.
-fn write_whole(columns: &mut [u8], grams: u32)
-    requires { (length columns.old ≡ 4) × (grams < 10000) }
-    ensures { columns.new ≡ whole_of grams }
+// The whole grams of a level in two pairs of columns.
+fn whole(grams: u32) -> [[u8; 2]; 2]
+    requires { grams < 10000 }
+    ensures { result ≡ whole_of grams }
 {
-    columns[0] = b' ';
-    columns[1] = b' ';
     if grams < 100 {
-        columns[2..].copy_from_slice(&justified(grams));
-    } else {
-        columns[..2].copy_from_slice(&justified(grams / 100));
-        columns[2..].copy_from_slice(&pair(grams % 100));
+        return [*b"  ", justified(grams)];
     }
+    [justified(grams / 100), pair(grams % 100)]
 }
 
-// A level over its columns.
-fn write_grams(columns: &mut [u8], level: u32)
-    requires { (length columns.old ≡ level_columns) × (level ≤ most_level) }
-    ensures { columns.new ≡ grams level }
+// A level in its columns, pair by pair.
+fn level_pairs(level: u32) -> [[u8; 2]; Page::LEVEL_COLUMNS / 2]
+    requires { level ≤ most_level }
+    ensures { flat_map (λ x. x) result ≡ grams level }
 {
     let thousandths = level / 1000;
     let grams = thousandths / 1000;
     // Not `thousandths % 1000`, with which a page takes longer.
     let rest = thousandths - grams * 1000;
-    columns[0] = b' ';
-    columns[1] = b' ';
-    write_whole(&mut columns[2..6], grams);
-    columns[6] = b'.';
-    columns[7] = b'0' + (rest / 100) as u8;
-    columns[8..].copy_from_slice(&pair(rest % 100));
+    let [first, second] = whole(grams);
+    let tenth = b'0' + (rest / 100) as u8;
+    [*b"  ", first, second, [b'.', tenth], pair(rest % 100)]
 }
 
 // The levels of a row over their columns.
@@ -131,9 +125,9 @@ fn write_levels(text: &mut [u8], levels: &[u32; Page::LEVELS])
     requires { (length text.old ≡ 6 * level_columns) × LevelsWithin levels.now }
     ensures { text.new ≡ levels_text levels.now 6 }
 {
-    for i in 0..Page::LEVELS {
+    for (i, level) in levels.iter().enumerate() {
         let at = i * Page::LEVEL_COLUMNS;
-        write_grams(&mut text[at..at + Page::LEVEL_COLUMNS], levels[i]);
+        text[at..at + Page::LEVEL_COLUMNS].copy_from_slice(level_pairs(*level).as_flattened());
     }
 }
 

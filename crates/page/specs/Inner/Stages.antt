@@ -1,5 +1,6 @@
 -- What the inner functions of the writer hand to each other. Laws: proofs/FigureLaws.antt. No assumptions.
 use Rattle.std.specs.Prelude.{ℕ, ◌+◌, ◌/◌, ◌%◌, ◌≤◌, ◌<◌, List, [], ◌∷◌, ◌++◌, ◌≡◌, ℤ, nat_abs, length, get_or}
+use Rattle.std.specs.List.{flat_map}
 use Rattle.stoichiometry.specs.Substances.{most_grains, o2, place}
 use Rattle.stoichiometry.specs.Levels.{most_level}
 use Rattle.stoichiometry.specs.Totals.{amount_at}
@@ -19,15 +20,17 @@ pair_of n = (48 + n / 10) ∷ (48 + n % 10) ∷ []
 abbrev pub justified_of : ℕ → List ℕ
 justified_of n = glyph (n / 10) 32 ∷ (48 + n % 10) ∷ []
 
--- The whole grams of a level in bounds, right-justified in four columns.
-abbrev pub whole_of : ℕ → List ℕ
-whole_of grams = glyph (grams / 1000) 32 ∷ glyph (grams / 100) 32 ∷ glyph (grams / 10) 32 ∷ (48 + grams % 10) ∷ []
+-- The whole grams of a level in bounds, right-justified in two pairs of columns.
+abbrev pub whole_of : ℕ → List (List ℕ)
+whole_of grams =
+    (glyph (grams / 1000) 32 ∷ glyph (grams / 100) 32 ∷ []) ∷ (glyph (grams / 10) 32 ∷ (48 + grams % 10) ∷ []) ∷ []
 
 -- The last eight columns of a level: all that a level in bounds takes.
 unfoldable pub figures_of : ℕ → List ℕ
 figures_of level =
     let n = level / 1000 in
-    whole_of (n / 1000) ++ (46 ∷ (48 + n / 100 % 10) ∷ (48 + n / 10 % 10) ∷ (48 + n % 10) ∷ [])
+    flat_map (λ pair. pair) (whole_of (n / 1000))
+    ++ (46 ∷ (48 + n / 100 % 10) ∷ (48 + n / 10 % 10) ∷ (48 + n % 10) ∷ [])
 
 -- Six levels, in bounds.
 abbrev pub LevelsWithin : List ℕ → Type 0

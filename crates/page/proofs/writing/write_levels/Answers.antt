@@ -1,5 +1,5 @@
 -- `write_levels` meets its contract: one level more. No assumptions.
-use Rattle.std.proofs.Common.{◌≡◌, ◌+◌, ◌*◌, ◌≤◌, ℕ, List, arith, length, get_or}
+use Rattle.std.proofs.Common.{◌≡◌, ◌+◌, ◌*◌, ◌≤◌, ℕ, List, ◌∙◌, arith, length, get_or, rules}
 use Rattle.text.proofs.BlockLaws.{no_block, next_block, all_blocks}
 use Rattle.page.specs.Pages.{level_columns, grams}
 use Rattle.page.proofs.LevelLaws.{grams-length}
@@ -16,7 +16,7 @@ pub loop-i-preserved : goal.loop-i-preserved
 loop-i-preserved c =
     let room : c.loop-i.i * level_columns + level_columns ≤ length c.args.text.now = omega (arith, c.requires.0) in
     next_block level_columns _ (each c.args.levels.now) c.args.text.now c.loop-i.text _ c.loop-i.i _ (omega arith) room
-    c.loop-i.invariant c.write_grams.ensures
+    c.loop-i.invariant (c.copy_from_slice.ensures.after ∙ search rules)
 
 pub returns : goal.returns
 returns c =

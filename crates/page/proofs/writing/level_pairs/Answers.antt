@@ -1,0 +1,10 @@
+-- `level_pairs` meets its contract: blanks, the whole grams, the point and the thousandths. No assumptions.
+use Rattle.std.proofs.Common.{ℕ, List, ◌∷◌, sym, ap, ◌∙◌}
+use Rattle.page.proofs.FigureLaws.{rest_figures}
+use Rattle.page.proofs.LevelLaws.{grams_split}
+use Rattle.page.proofs.writing.level_pairs.Goals as goal
+
+pub returns : goal.returns
+returns c =
+    rw (c.whole.ensures, c.pair.ensures)
+    (ap (λ (l : List ℕ). 32 ∷ 32 ∷ l) (rest_figures c.args.level) ∙ sym (grams_split c.args.level c.requires))
