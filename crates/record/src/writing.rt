@@ -25,15 +25,14 @@ fn line_labels() -> Labels
     array::from_fn(label)
 }
 
-// One line over its bytes: its cell, its label, its value and the line feed.
-fn write_line(line: &mut [u8], cell: u32, label: [u8; 2], value: i64)
+// One line over its bytes: the columns of its cell, its label, its value and the line feed.
+fn write_line(line: &mut [u8], cell: [u8; 2], label: [u8; 2], value: i64)
     requires { length line.old ≡ line_bytes }
     ensures { line.new ≡ labelled cell label value }
 {
-    line[..2].copy_from_slice(&two_columns(cell));
-    line[2] = b' ';
-    line[3..5].copy_from_slice(&label);
-    line[5] = b' ';
+    let [cell_tens, cell_ones] = cell;
+    let [tens, ones] = label;
+    line[..Record::VALUE_START].copy_from_slice(&[cell_tens, cell_ones, b' ', tens, ones, b' ']);
     write_value(&mut line[Record::VALUE_START..Record::LINE_FEED], value);
     line[Record::LINE_FEED] = b'\n';
 }
@@ -55,7 +54,7 @@ fn write_cell(text: &mut [u8], river: &River, c: usize, labels: &Labels)
     requires labels { Labels labels.now }
     ensures { text.new ≡ cell_text lines (value_of river.now.amounts river.now.carries) c }
 {
-    let cell = (c + 1) as u32;
+    let cell = two_columns((c + 1) as u32);
     for k in 0..Record::LINES {
         let at = k * Record::LINE_BYTES;
         let line = &mut text[at..at + Record::LINE_BYTES];

@@ -1,5 +1,5 @@
 -- What the inner functions of the writer hand to each other. No assumptions.
-use Rattle.std.specs.Prelude.{ℕ, ◌+◌, ◌<◌, List, [], ◌∷◌, ◌++◌, ◌≡◌, ℤ, slice_index_or}
+use Rattle.std.specs.Prelude.{ℕ, ◌+◌, ◌<◌, List, [], ◌∷◌, ◌++◌, ◌≡◌, ℤ, get_or, slice_index_or}
 use Rattle.text.specs.Decimals.{plain, decimal}
 use Rattle.text.specs.Writes.{put}
 use Rattle.record.specs.Lines.{lines, record_text, value_of}
@@ -8,9 +8,10 @@ use Rattle.record.specs.Lines.{lines, record_text, value_of}
 abbrev pub Labels : List (List ℕ) → Type 0
 Labels labels = (k : ℕ) → k < lines → slice_index_or labels k [] ≡ plain 2 32 (k + 1)
 
--- A line with a label for its place.
-unfoldable pub labelled : ℕ → List ℕ → ℤ → List ℕ
-labelled cell label value = plain 2 32 cell ++ (32 ∷ []) ++ label ++ (32 ∷ []) ++ decimal 20 value ++ (10 ∷ [])
+-- A line with the two columns of its cell and those of its place.
+unfoldable pub labelled : List ℕ → List ℕ → ℤ → List ℕ
+labelled cell label value =
+    (get_or cell 0 0 ∷ get_or cell 1 0 ∷ 32 ∷ get_or label 0 0 ∷ get_or label 1 0 ∷ 32 ∷ []) ++ decimal 20 value ++ (10 ∷ [])
 
 -- A text over which the lines of the first n cells are written.
 abbrev pub cells_put : List ℕ → List ℤ → List ℕ → ℕ → List ℕ

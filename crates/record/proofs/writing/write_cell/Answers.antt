@@ -20,7 +20,7 @@ loop-k-preserved c =
     let read = kept_is c.value_at.result c.value_at.type_inv ∙ c.value_at.ensures in
     let written : c.write_line.new.line ≡ line cell (k + 1) (value k) =
     c.write_line.ensures
-    ∙ labelled_line cell (k + 1) _ _ (c.requires.labels k c.loop-k-test.true)
+    ∙ labelled_line cell (k + 1) _ _ _ c.two_columns-cell.ensures.columns (c.requires.labels k c.loop-k-test.true)
     ∙ ap (line cell (k + 1)) read in
     let room : k * line_bytes + line_bytes ≤ length c.args.text.now = omega (arith, c.requires.room.1) in
     next_block line_bytes _ (λ i. line-length cell (i + 1) (value i)) c.args.text.now c.loop-k.text _ k _ (omega arith) room
