@@ -4,12 +4,30 @@ use crate::line::Line;
 use probe::{Amounts, Frame, Oxygen};
 use std::num::f32_from_bits_with_nan;
 
-// Form 0 is a mass, 1 a percentage, any other a missing reading: numbers, as the vectors write them.
-fn oxygen(form: u32, bits: u32) -> Oxygen {
+// What the reading of oxygen is.
+#[derive(Clone, Copy)]
+enum Form {
+    Mass,
+    Percent,
+    Missing,
+}
+
+// As the vectors number them; any number but 0 and 1 is a missing reading.
+impl From<u32> for Form {
+    fn from(number: u32) -> Form {
+        match number {
+            0 => Form::Mass,
+            1 => Form::Percent,
+            _ => Form::Missing,
+        }
+    }
+}
+
+fn oxygen(form: Form, bits: u32) -> Oxygen {
     match form {
-        0 => Oxygen::Mass(f32_from_bits_with_nan(bits)),
-        1 => Oxygen::Percent(f32_from_bits_with_nan(bits)),
-        _ => Oxygen::Missing,
+        Form::Mass => Oxygen::Mass(f32_from_bits_with_nan(bits)),
+        Form::Percent => Oxygen::Percent(f32_from_bits_with_nan(bits)),
+        Form::Missing => Oxygen::Missing,
     }
 }
 
@@ -19,7 +37,7 @@ fn frame_of(line: &Line) -> Frame {
         nitrite: f32_from_bits_with_nan(line.figure(1)),
         nitrate: f32_from_bits_with_nan(line.figure(2)),
         phosphate: f32_from_bits_with_nan(line.figure(3)),
-        oxygen: oxygen(line.figure(4), line.figure(5)),
+        oxygen: oxygen(Form::from(line.figure(4)), line.figure(5)),
     }
 }
 

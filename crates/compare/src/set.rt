@@ -28,6 +28,10 @@ impl Figures {
         array::from_fn(|i| self.list.get(first.saturating_add(i)).copied().unwrap_or(0))
     }
 
+    fn organics(&self) -> Organics {
+        Organics::from(array::from_fn(|i| Fractions::from(self.part(i * 5))))
+    }
+
     fn rates(&self) -> RateConstants {
         RateConstants::from(self.part(49))
     }
@@ -44,38 +48,12 @@ impl Figures {
     }
 }
 
-// The fractions of an organic, counted from 0 to 7. Fractions are lists only here, so stoichiometry has no such form.
-fn fractions(figures: &Figures, organic: usize) -> Fractions {
-    let [carbon, hydrogen, oxygen, nitrogen, phosphorus]: [u32; 5] = figures.part(organic % 8 * 5);
-    Fractions {
-        carbon,
-        hydrogen,
-        oxygen,
-        nitrogen,
-        phosphorus,
-    }
-}
-
-fn organics(figures: &Figures) -> Organics {
-    Organics {
-        ss: fractions(figures, 0),
-        si: fractions(figures, 1),
-        xh: fractions(figures, 2),
-        xn1: fractions(figures, 3),
-        xn2: fractions(figures, 4),
-        xalg: fractions(figures, 5),
-        xs: fractions(figures, 6),
-        xi: fractions(figures, 7),
-    }
-}
-
 impl From<&Figures> for Set {
     fn from(figures: &Figures) -> Set {
-        let [bacteria, algae]: [u32; 2] = figures.part(47);
         Set {
-            fractions: organics(figures),
+            fractions: figures.organics(),
             yields: Yields::from(figures.part(40)),
-            inert: InertFractions { bacteria, algae },
+            inert: InertFractions::from(figures.part(47)),
             rates: figures.rates(),
             half: figures.half_saturations(),
         }
@@ -91,21 +69,13 @@ pub(crate) fn published(figures: &Figures) -> Answer {
     )
 }
 
-// Fractions, inert ones too, are lists only here.
-fn with_fractions(digest: Digest, f: Fractions) -> Digest {
-    digest.with_all(&[f.carbon, f.hydrogen, f.oxygen, f.nitrogen, f.phosphorus])
-}
-
-fn with_organics(digest: Digest, f: Organics) -> Digest {
-    [f.ss, f.si, f.xh, f.xn1, f.xn2, f.xalg, f.xs, f.xi]
-        .iter()
-        .fold(digest, |digest, f| with_fractions(digest, *f))
-}
-
 fn of_set(set: Set) -> Digest {
-    with_organics(Digest::START, set.fractions)
+    set.fractions
+        .each()
+        .iter()
+        .fold(Digest::START, |digest, f| digest.with_all(&f.figures()))
         .with_all(&set.yields.figures())
-        .with_all(&[set.inert.bacteria, set.inert.algae])
+        .with_all(&set.inert.figures())
         .with_all(&set.rates.figures())
         .with_all(&set.half.figures())
 }

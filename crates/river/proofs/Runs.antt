@@ -1,6 +1,6 @@
 -- Runs of neighbouring substances of a cell: their amounts tested one by one, and by one test of their joined bits
 -- where they have the same bounds. No assumptions.
-use Prim.Native.Nat.{ℕ, ◌+◌, ◌-◌, ◌≤◌, ◌<◌, zero-le}
+use Prim.Native.Nat.{ℕ, zero, suc, ◌+◌, ◌-◌, ◌≤◌, ◌<◌, zero-le}
 use mathlib.Core.Bool.{Bool, true, false, true≢false}
 use mathlib.Core.List.{List}
 use mathlib.Core.Path.{◌≡◌, refl, sym, ap, ◌∙◌}
@@ -14,6 +14,7 @@ use lib.Seq.{get_or-take, get_or-drop}
 use lib.Signed.{◌≤ℤ◌, le_z}
 use mir.Syntax.{w64}
 use mir.Val.{to_z, of_z}
+use Rattle.std.specs.List.{list_all, range_with_len}
 use Rattle.numeric.specs.Check.{every}
 use Rattle.numeric.proofs.CheckLaws.{and_left, and_right, every_at, every_all}
 use Rattle.numeric.proofs.Comparison.{le_z_true}
@@ -46,6 +47,17 @@ module _ (cell : List ℤ) (first : ℕ) where
   pub run_stops : (s end : ℕ) → first ≤ s → s < end → amount_fits s (get_or cell s (pos 0)) ≡ false
       → RunFits cell first end → ⊥
   run_stops s end from before fails all = true≢false (sym (all s from before) ∙ fails)
+
+-- Substances tested in turn.
+pub run_listed : (cell : List ℤ) (first n : ℕ)
+    → list_all (λ s. amount_fits s (get_or cell s (pos 0))) (range_with_len first n) ≡ true
+    → RunFits cell first (first + n)
+run_listed cell first zero all = λ s from before. let no : ⊥ = omega arith in absurd no
+run_listed cell first (suc n) all =
+    let next : first + 1 + n ≡ first + suc n = omega arith in
+    run-append cell first (first + 1) (first + suc n)
+    (λ s from before. let only : s ≡ first = omega arith in rw only (and_left _ _ all))
+    (rw next at (run_listed cell (first + 1) n (and_right (amount_fits first (get_or cell first (pos 0))) _ all)))
 
 -- The first n substances of a cell.
 module _ (cell : List ℤ) (n : ℕ) where

@@ -57,12 +57,7 @@ fn each_amount_fits(cell: &[i64; SUBSTANCES], first: usize, end: usize) -> bool
     ensures fit { result ≡ true → RunFits cell.now first end }
     ensures other { result ≡ false → RunFits cell.now first end → ⊥ }
 {
-    for s in first..end {
-        if !amount_fits(s, cell[s]) {
-            return false;
-        }
-    }
-    true
+    (first..end).all(|s| amount_fits(s, cell[s]))
 }
 
 // The bits of amounts, joined. Where that is not below zero, each of them is from 0 to it.

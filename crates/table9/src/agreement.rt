@@ -53,12 +53,6 @@ fn reference(process: usize) -> usize {
     }
 }
 
-// The three stand apart: a figure asks for two entries of its row, so a struct of them would be made twice for it.
-fn entry(rows: &[i64; ENTRIES], process: usize, substance: usize) -> Option<i64> {
-    let row = rows.chunks_exact(SUBSTANCES).nth(process.checked_sub(1)?)?;
-    row.get(substance).copied()
-}
-
 // No entry of the published set is larger.
 const ENTRY_MOST: u64 = 30000000000;
 
@@ -72,52 +66,71 @@ fn amount(entry: i64, substance: usize) -> Option<u64> {
     }
 }
 
-// Whether a figure agrees with amount / unit, which is below zero where `negative` holds.
-// Sign and amount stand apart, as in the definition: a struct would be made at one call alone, and taken apart here.
-#[tactic(auto, unfolding(crate::specs::Agreement::agrees_with))]
-fn agrees(negative: bool, amount: u64, unit: u64, figure: Figure) -> bool
-    requires { InReach amount unit figure }
-    ensures { result ≡ agrees_with negative amount unit figure }
-{
-    if negative != figure.negative {
-        return false;
+// What a row has per gram of its reference: amount / unit, below zero where `negative` holds.
+#[derive(Clone, Copy)]
+struct Coefficient {
+    negative: bool,
+    amount: u64,
+    unit: u64,
+}
+
+impl Coefficient {
+    // Whether a figure agrees with it.
+    #[tactic(auto, unfolding(crate::specs::Agreement::agrees_with))]
+    fn agrees(self, figure: Figure) -> bool
+        requires { InReach self.amount self.unit figure }
+        ensures { result ≡ agrees_with self.negative self.amount self.unit figure }
+    {
+        if self.negative != figure.negative {
+            return false;
+        }
+        (self.amount * figure.scale).abs_diff(figure.digits * self.unit) <= self.unit / 2
     }
-    (amount * figure.scale).abs_diff(figure.digits * unit) <= unit / 2
-}
 
-// The same of any numbers; out of reach none agree.
-fn agrees_in_reach(negative: bool, amount: u64, unit: u64, figure: Figure) -> bool {
-    let small = figure.digits <= 5000000 && figure.scale <= 1000000;
-    if small && amount <= 10000000000000 && 1 <= unit && unit <= 3000000000000 {
-        agrees(negative, amount, unit, figure)
-    } else {
-        false
+    // The same of any numbers; out of reach none agree.
+    fn agrees_in_reach(self, figure: Figure) -> bool {
+        let small = figure.digits <= 5000000 && figure.scale <= 1000000;
+        let within = self.amount <= 10000000000000 && 1 <= self.unit && self.unit <= 3000000000000;
+        small && within && self.agrees(figure)
     }
 }
 
-fn agrees_with_entry(
-    rows: &[i64; ENTRIES],
-    process: usize,
-    substance: usize,
-    figure: Figure,
-) -> Option<bool> {
-    let change = entry(rows, process, substance)?;
-    let per = reference(process);
-    let unit = amount(entry(rows, process, per)?, per)?;
-    let amount = amount(change, substance)?;
-    Some(agrees_in_reach(change < 0, amount, unit, figure))
+// The row of a process, none where there is no such process, and the place of the substance of which it is per gram.
+#[derive(Clone, Copy)]
+pub(crate) struct Row<'a> {
+    entries: Option<&'a [i64]>,
+    reference: usize,
 }
 
-// Whether a figure agrees with the entry of its row, or a blank's entry is 0. Where there is no such row or column, a
-// blank is right and a figure is not.
-pub(crate) fn is_right(
-    rows: &[i64; ENTRIES],
-    process: usize,
-    substance: usize,
-    figure: Option<Figure>,
-) -> bool {
-    match figure {
-        Some(figure) => agrees_with_entry(rows, process, substance, figure).unwrap_or(false),
-        None => entry(rows, process, substance).unwrap_or(0) == 0,
+impl<'a> Row<'a> {
+    pub(crate) fn of(rows: &'a [i64; ENTRIES], process: usize) -> Row<'a> {
+        Row {
+            entries: rows.chunks_exact(SUBSTANCES).nth(process.wrapping_sub(1)),
+            reference: reference(process),
+        }
+    }
+
+    fn entry(self, substance: usize) -> Option<i64> {
+        self.entries?.get(substance).copied()
+    }
+
+    fn coefficient(self, substance: usize) -> Option<Coefficient> {
+        let entry = self.entry(substance)?;
+        Some(Coefficient {
+            negative: entry < 0,
+            amount: amount(entry, substance)?,
+            unit: amount(self.entry(self.reference)?, self.reference)?,
+        })
+    }
+
+    // Whether a figure agrees with the entry of a substance, or a blank's entry is 0. Where there is no such entry, a
+    // blank is right and a figure is not.
+    pub(crate) fn is_right(self, substance: usize, figure: Option<Figure>) -> bool {
+        match figure {
+            Some(figure) => self
+                .coefficient(substance)
+                .is_some_and(|coefficient| coefficient.agrees_in_reach(figure)),
+            None => self.entry(substance).unwrap_or(0) == 0,
+        }
     }
 }

@@ -1,6 +1,6 @@
 // The text of the table, and what is counted and written of it. A space or a line feed ends a cell, a line feed a row;
 // any other bytes, also those of no UTF-8, can stand in a cell.
-use crate::agreement::{Figure, is_right};
+use crate::agreement::{Figure, Row};
 use std::fmt;
 use std::io::Result;
 use stoichiometry::ENTRIES;
@@ -107,15 +107,16 @@ pub(crate) fn compare(rt: &impl Print, text: &[u8], rows: &[i64; ENTRIES]) -> Re
             continue;
         };
         let process = first.digits as usize;
-        let mut row = Tally::default();
+        let row = Row::of(rows, process);
+        let mut tally = Tally::default();
         for (substance, cell) in cells.enumerate() {
             let figure = figure_of(cell);
-            let right = is_right(rows, process, substance, figure);
-            row.take(figure, right);
+            let right = row.is_right(substance, figure);
+            tally.take(figure, right);
             all.take(figure, right);
         }
         if line.ends_with(b"\n") {
-            println!(rt; "row {process:>2}: {row}")?;
+            println!(rt; "row {process:>2}: {tally}")?;
         }
     }
     println!(rt; "all rows: {all}")

@@ -97,8 +97,8 @@ impl Totals {
     {
         let ones = Totals::of_each(set);
         let mut totals = Totals::default();
-        for s in 0..SUBSTANCES {
-            totals = totals.with(amounts[s], ones[s]);
+        for (amount, one) in amounts.iter().zip(&ones) {
+            totals = totals.with(*amount, *one);
         }
         totals
     }
