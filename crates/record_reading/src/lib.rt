@@ -26,7 +26,7 @@ pub fn read_record(text: &[u8]) -> Result<River, Refusal>
         amounts: [0; AMOUNTS],
         carries: [0; CARRIES],
     };
-    let Some(()) = read_cells(text, n, &mut river) else {
+    let Some(()) = read_cells(text, &mut river) else {
         return Err(Refusal::Text);
     };
     if !river.fits() {

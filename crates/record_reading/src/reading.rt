@@ -1,13 +1,13 @@
 // Lines read strictly from a text, cell by cell.
-ghost use Rattle.std.specs.Prelude.{◌≡◌, ◌&&◌, ◌+◌, ◌*◌, ◌/◌, ◌≤◌, ◌<◌, eqb, length, replicate, pos, is_some, OnSome};
+ghost use Rattle.std.specs.Prelude.{◌≡◌, ◌&&◌, ◌+◌, ◌*◌, ◌/◌, ◌≤◌, ◌<◌, eqb, replicate, pos, is_some, OnSome};
 ghost use Rattle.stoichiometry.specs.Rows.{processes};
 ghost use Rattle.stoichiometry.specs.Substances.{substances};
 ghost use Rattle.river.specs.Rivers.{cells_fit, zero_river, most_cells};
 ghost use Rattle.text.specs.Blocks.{part};
-ghost use Rattle.record.specs.Lines.{front, lines, line_bytes, cell_bytes};
+ghost use Rattle.record.specs.Lines.{front, lines, cell_bytes};
 ghost use Rattle.record_reading.specs.Reading.{same_bytes, line_value, lowest_on, highest_on};
-ghost use Rattle.record_reading.specs.Reading.{cell_right, lines_right, amounts_in, carries_in};
-ghost use Rattle.record_reading.specs.Inner.Stages.{amounts_stored, carries_stored};
+ghost use Rattle.record_reading.specs.Reading.{cells_in, lines_right, amounts_in, carries_in};
+ghost use Rattle.record_reading.specs.Inner.Stages.{cell_found, amounts_stored, carries_stored};
 
 use record::Record;
 use river::River;
@@ -17,8 +17,7 @@ use text_reading::read_decimal;
 
 // What stands before the value of the line is its cell and its place. As tuples: slices and arrays are compared by a call
 // of the library, and a record is then read in a seventh more.
-fn front_right(line: &[u8], cell: u32, place: u32) -> bool
-    requires { 6 ≤ length line.now }
+fn front_right(line: &[u8; Record::LINE_BYTES], cell: u32, place: u32) -> bool
     ensures { result ≡ same_bytes (part 0 6 line.now) (front cell place) }
 {
     let [c0, c1] = two_columns(cell);
@@ -40,8 +39,8 @@ fn limits_on(k: usize) -> (i64, i64)
 }
 
 // The value of a cell's line k, from 0, if the line has one within its limits.
-fn line_value(line: &[u8], cell: u32, k: usize) -> Option<i64>
-    requires { (length line.now ≡ line_bytes) × (k < lines) }
+fn line_value(line: &[u8; Record::LINE_BYTES], cell: u32, k: usize) -> Option<i64>
+    requires { k < lines }
     ensures { result ≡ line_value line.now cell (k + 1) (lowest_on k) (highest_on k) }
 {
     if line[Record::LINE_FEED] == b'\n' && front_right(line, cell, (k + 1) as u32) {
@@ -58,19 +57,18 @@ fn line_value(line: &[u8], cell: u32, k: usize) -> Option<i64>
 
 // The amounts and then the carries of cell c, counted from 0, if each of its lines has its value. One loop over all
 // lines, so that a line is read from one place only and the compiler sets the reading of it into the loop. The cell is
-// told by its number: by chunks it would be three, of the text, the amounts and the carries, zipped and counted.
-fn read_cell(text: &[u8], c: usize, river: &mut River) -> Option<()>
-    requires { (c < most_cells) × (c * cell_bytes + cell_bytes ≤ length text.now) }
-    ensures value { is_some result ≡ cell_right text.now c }
+// told by its number, and its amounts and carries by their places: of chunks that `as_chunks_mut` lends of the river's
+// lists nothing would be known after.
+fn read_cell(text: &[u8; Record::CELL_BYTES], c: usize, river: &mut River) -> Option<()>
+    requires { c < most_cells }
+    ensures value { is_some result ≡ cell_found text.now c }
     ensures cells_kept { OnSome result (river.new.cells ≡ river.old.cells) }
     ensures amounts_after { OnSome result (river.new.amounts ≡ amounts_stored text.now c river.old.amounts) }
     ensures carries_after { OnSome result (river.new.carries ≡ carries_stored text.now c river.old.carries) }
 {
-    let start = c * Record::CELL_BYTES;
     let cell = (c + 1) as u32;
-    for k in 0..Record::LINES {
-        let at = start + k * Record::LINE_BYTES;
-        let line = &text[at..at + Record::LINE_BYTES];
+    let (lines, _) = text.as_chunks::<{ Record::LINE_BYTES }>();
+    for (k, line) in lines.iter().enumerate() {
         let value = line_value(line, cell, k)?;
         if k < SUBSTANCES {
             river.amounts[c * SUBSTANCES + k] = value;
@@ -81,19 +79,19 @@ fn read_cell(text: &[u8], c: usize, river: &mut River) -> Option<()>
     Some(())
 }
 
-// The amounts and carries of the first n cells, if each line has its value. That n is at most 8 is a clause:
-// `size_fits` told it to the one caller, and a type for it would be made for this one call.
-pub(crate) fn read_cells(text: &[u8], n: usize, river: &mut River) -> Option<()>
-    requires cells_in_text { (n ≤ most_cells) × (n * cell_bytes ≤ length text.now) }
+// The amounts and carries of all cells of the text, if each line has its value.
+pub(crate) fn read_cells(text: &[u8], river: &mut River) -> Option<()>
+    requires cells_in_text { cells_in text.now ≤ most_cells }
     requires no_amounts { river.old.amounts ≡ replicate (most_cells * substances) (pos 0) }
     requires no_carries { river.old.carries ≡ replicate (most_cells * processes) 0 }
-    ensures value { is_some result ≡ lines_right n text.now }
+    ensures value { is_some result ≡ lines_right (cells_in text.now) text.now }
     ensures cells_kept { OnSome result (river.new.cells ≡ river.old.cells) }
-    ensures amounts_after { OnSome result (river.new.amounts ≡ amounts_in n text.now) }
-    ensures carries_after { OnSome result (river.new.carries ≡ carries_in n text.now) }
+    ensures amounts_after { OnSome result (river.new.amounts ≡ amounts_in (cells_in text.now) text.now) }
+    ensures carries_after { OnSome result (river.new.carries ≡ carries_in (cells_in text.now) text.now) }
 {
-    for c in 0..n {
-        read_cell(text, c, river)?;
+    let (cells, _) = text.as_chunks::<{ Record::CELL_BYTES }>();
+    for (c, cell) in cells.iter().enumerate() {
+        read_cell(cell, c, river)?;
     }
     Some(())
 }

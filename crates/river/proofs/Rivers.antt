@@ -84,13 +84,13 @@ abbrev pub cell_of : List ℤ → ℕ → List ℤ
 cell_of amounts c = get_or (first_chunks substances most_cells amounts) c []
 
 -- A chunk is what stands at its place.
-chunk_at : (w n : ℕ) (xs : List ℤ) (c s : ℕ) → c < n → s < w
-    → get_or (get_or (first_chunks w n xs) c []) s (pos 0) ≡ get_or xs (c * w + s) (pos 0)
-chunk_at w zero xs c s h l = absurd (omega arith)
-chunk_at w (suc n) xs zero s h l = rw (zero-mul, zero-add) (get_or-take w xs s (pos 0) l)
-chunk_at w (suc n) xs (suc c) s h l =
+pub chunk_at : {A : Type 0} (w n : ℕ) (xs : List A) (c s : ℕ) (d : A) → c < n → s < w
+    → get_or (get_or (first_chunks w n xs) c []) s d ≡ get_or xs (c * w + s) d
+chunk_at w zero xs c s d h l = absurd (omega arith)
+chunk_at w (suc n) xs zero s d h l = rw (zero-mul, zero-add) (get_or-take w xs s d l)
+chunk_at w (suc n) xs (suc c) s d h l =
     let place : w + (c * w + s) ≡ suc c * w + s = rw (suc-mul) (omega arith) in
-    chunk_at w n (drop w xs) c s (omega arith) l ∙ get_or-drop w xs (c * w + s) (pos 0) ∙ ap (λ k. get_or xs k (pos 0)) place
+    chunk_at w n (drop w xs) c s d (omega arith) l ∙ get_or-drop w xs (c * w + s) d ∙ ap (λ (k : ℕ). get_or xs k d) place
 
 every_either : (b : Bool) (m : ℕ) (p q : ℕ → Bool) → every m (λ s. cond b (p s) (q s)) ≡ cond b (every m p) (every m q)
 every_either true m p q = refl
@@ -116,7 +116,7 @@ module _ (n : ℕ) (amounts : List ℤ) where
   amounts-cells =
       every-rows most_cells substances (λ k. cond (ltb (k / substances) n) (inside k) (empty k))
       ∙ every_eq most_cells _ _ (λ c l.
-      every_eq substances _ _ (λ s i. rw (digits_div c i, digits_mod c i, ← chunk_at substances most_cells amounts c s l i))
+      every_eq substances _ _ (λ s i. rw (digits_div c i, digits_mod c i, ← chunk_at substances most_cells amounts c s (pos 0) l i))
       ∙ every_either (ltb c n) substances (λ s. amount_fits s (get_or (cell_of amounts c) s (pos 0))) _)
 
   -- An answer that says whether every cell is.

@@ -16,29 +16,27 @@ use Rattle.stoichiometry.specs.Rows.{processes}
 use Rattle.stoichiometry.specs.Substances.{substances, most_net}
 use Rattle.rows.specs.Answers.{most_entry}
 use Rattle.step.specs.Steps.{most_batches}
-use Rattle.river.specs.Rivers.{most_cells}
 use Rattle.step.specs.Inner.Stepping.{BatchesFit, EntriesFit, added_from}
 
--- What processes add to the substance at place s of cell c.
-module _ (whole entries : List ℤ) (batches : BatchesFit whole) (rows : EntriesFit entries) (c s : ℕ)
-    (cell : c < most_cells) where
+-- What processes add to the substance at place s of a cell.
+module _ (whole entries : List ℤ) (batches : BatchesFit whole) (rows : EntriesFit entries) (s : ℕ) where
   abbrev added : ℕ → ℤ
-  added = added_from whole (c * processes) entries s
+  added = added_from whole entries s
 
   -- One process adds at most 2.5 × 10^17.
   pub term_bound : (p : ℕ) → p < processes → nat_abs (added p) ≤ most_batches * most_entry
   term_bound p k =
-      abs_mul_le (get_or whole (c * processes + p) (pos 0)) (get_or entries (p * substances + s) (pos 0))
-      (batches.most (c * processes + p) (omega arith)) (rows.bounded.each (p * substances + s))
+      abs_mul_le (get_or whole p (pos 0)) (get_or entries (p * substances + s) (pos 0))
+      (batches.most p k) (rows.bounded.each (p * substances + s))
 
   -- What the machine makes of the product.
   pub term_kept : (p : ℕ) → p < processes
-      → kept (kept (get_or whole (c * processes + p) (pos 0)) *ℤ kept (get_or entries (p * substances + s) (pos 0))) ≡ added p
+      → kept (kept (get_or whole p (pos 0)) *ℤ kept (get_or entries (p * substances + s) (pos 0))) ≡ added p
   term_kept p k =
-      let batch = batches.most (c * processes + p) (omega arith) in
+      let batch = batches.most p k in
       let entry = rows.bounded.each (p * substances + s) in
       rw (
-        to_z-of_z (fits_abs (get_or whole (c * processes + p) (pos 0)) (omega (arith, batch))),
+        to_z-of_z (fits_abs (get_or whole p (pos 0)) (omega (arith, batch))),
         to_z-of_z (fits_abs (get_or entries (p * substances + s) (pos 0)) (omega (arith, entry))),
       )
       (to_z-of_z (fits_abs (added p) (omega (arith, term_bound p k))))

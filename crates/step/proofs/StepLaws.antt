@@ -1,93 +1,85 @@
--- What the inner functions of the step make, in terms of the step's definitions: whole batches by cell, check 7, and
--- the amounts after. No assumptions.
-use Prim.Native.Nat.{ℕ, ◌+◌, ◌*◌, ◌≤◌, ◌<◌}
-use mathlib.Core.Bool.{Bool, true, false, not}
-use mathlib.Core.List.{List}
-use mathlib.Core.Path.{◌≡◌, refl, ap, ap₂, ◌∙◌}
+-- The lists of all cells that the step makes, on plain values: rows that a loop makes one after the other, joined, are a
+-- grid. No assumptions.
+use Prim.Native.Nat.{ℕ, zero, suc, ◌+◌, ◌*◌, ◌/◌, ◌%◌, ◌≤◌, ◌<◌}
+use mathlib.Core.Bool.{cond}
+use mathlib.Core.List.{List, [], ◌∷◌, ◌++◌, append_assoc, append-nil}
+use mathlib.Core.Path.{◌≡◌, refl, sym, ap, ap₂, ◌∙◌}
+use native.Mathlib.Nat.{add-zero, zero-add, add-suc, suc-mul, zero-mul}
 use native.Mathlib.Omega.{arith}
-use lib.Dec.{leb, lit<, lit≤}
-use lib.ListN.{get_or}
-use lib.IntN.{ℤ, pos, nat_abs, ◌+ℤ◌, ◌*ℤ◌}
-use native.Mathlib.Nat.{mul-le-mul_right}
-use borrow.Author.Tests.{leb-true, not-false}
-use Rattle.numeric.proofs.Bounds.{abs_le}
-use Rattle.numeric.proofs.Comparison.{le_le_z}
-use Rattle.numeric.specs.Check.{every}
-use Rattle.numeric.specs.Table.{grid}
-use Rattle.numeric.proofs.CheckLaws.{every_at, every_all}
-use Rattle.numeric.proofs.GridLaws.{grid-each, grid_at_lem, grid_eq}
-use Rattle.numeric.proofs.SumLaws.{sum_eq}
-use Rattle.numeric.proofs.TableLaws.{get_or-tab}
-use Rattle.stoichiometry.specs.declared.Set.{Set}
-use Rattle.stoichiometry.specs.Rows.{processes, rows_of}
-use Rattle.stoichiometry.proofs.Balance.{get_or_rows}
-use Rattle.stoichiometry.specs.Substances.{substances}
-use Rattle.kinetics.specs.declared.Conditions.{Conditions}
-use Rattle.river.specs.declared.River.{River}
-use Rattle.stoichiometry.specs.Totals.{amount_at}
-use Rattle.river.specs.Rivers.{carry_at, river_wrong, most_cells}
-use Rattle.river.proofs.Rivers.{river-cells}
-use Rattle.step.specs.Steps.{most_batches, batches, new_amount, stepped_amounts, batches_wrong}
-use Rattle.step.specs.Inner.Stepping.{BatchesFit, Pass, applied_from, whole_at, whole_from}
+use borrow.Author.Tests.{lt-ltb, le-ltb}
+use lib.Arith.{digits_div, digits_mod}
+use lib.Dec.{ltb}
+use lib.ListN.{length, set, replicate, length-replicate}
+use lib.Seq.{get_or-set_other}
+use Rattle.std.specs.List.{flat_map}
+use Rattle.std.proofs.lemmas.Grind.{flat_map-append}
+use Rattle.numeric.specs.Table.{tab, run, grid}
+use Rattle.numeric.proofs.Filling.{fill_none, fill_more, fill_run, fill_done, FilledThen, then_none, then_done, replicate_at}
+use Rattle.numeric.proofs.TableLaws.{tab_eq, tab_of_list}
+use Rattle.river.specs.Rivers.{most_cells}
 
--- A river that passes check 4, and the whole batches that were made of it.
-module _ (set : Set) (conditions : Conditions) (r : River) (right : river_wrong r ≡ false) (whole : List ℤ)
-    (made : whole ≡ whole_from set conditions r) where
-  whole_in_cell : (c p : ℕ) → c < r.cells → p < processes
-      → get_or whole (c * processes + p) (pos 0) ≡ whole_at set conditions r c p
-  whole_in_cell c p h l =
-      rw made
-      (grid_at_lem most_cells processes r.cells (pos 0) (whole_at set conditions r) c p (pos 0) h
-      (omega (arith, (river-cells r right).1)) l)
+module _ {A : Type 0} where
+  -- A table of n + m elements is two.
+  tab_add : (n m : ℕ) (f : ℕ → A) → tab (n + m) f ≡ tab n f ++ tab m (λ k. f (n + k))
+  unfolding tab
+  tab_add n zero f = rw add-zero (sym (append-nil (tab n f)))
+  tab_add n (suc m) f =
+      rw add-suc
+      (ap (λ (l : List A). l ++ (f (n + m) ∷ [])) (tab_add n m f)
+      ∙ append_assoc (tab n f) (tab m (λ k. f (n + k))) (f (n + m) ∷ []))
 
-  -- Process p of cell c passes check 7.
-  few : ℕ → ℕ → Bool
-  few c p = leb (batches set conditions (amount_at r.amounts c) (carry_at r.carries c) p) most_batches
+  -- Rows of w elements, joined.
+  rows_joined : (w m : ℕ) (row : ℕ → ℕ → A)
+      → flat_map (λ (x : List A). x) (tab m (λ c. tab w (row c))) ≡ tab (m * w) (λ k. row (k / w) (k % w))
+  unfolding tab
+  rows_joined w zero row = rw zero-mul refl
+  rows_joined w (suc m) row =
+      let last : tab w (row m) ≡ tab w (λ s. row ((m * w + s) / w) ((m * w + s) % w)) =
+      tab_eq w _ _ (λ s l. rw (digits_div m l, digits_mod m l) refl) in
+      flat_map-append (λ (x : List A). x) (tab m (λ c. tab w (row c))) (tab w (row m) ∷ [])
+      ∙ ap₂ ◌++◌ (rows_joined w m row) (append-nil (tab w (row m)) ∙ last)
+      ∙ rw suc-mul (sym (tab_add (m * w) w (λ k. row (k / w) (k % w))))
 
-  -- Check 7 is passed where the batches of the list pass it.
-  pub batches_pass : Pass whole → batches_wrong set conditions r ≡ false
-  unfolding batches_wrong few
-  batches_pass pass =
-      ap not
-      (every_all r.cells (λ c. every processes (few c))
-      (λ c h.
-      every_all processes (few c)
-      (λ p l.
-      let next : c + 1 ≤ most_cells = omega (arith, (river-cells r right).1) in
-      let inside : (c + 1) * processes ≤ most_cells * processes = mul-le-mul_right processes next in
-      le_le_z _ (pos most_batches) (rw (whole_in_cell c p h l) at (pass (c * processes + p) (omega arith))))))
+-- A list of n elements over which f 0 to f (n - 1) are stored.
+pub run_whole : {A : Type 0} (n : ℕ) (f : ℕ → A) (l : List A) → length l ≡ n → run l 0 n f ≡ tab n f
+run_whole n f l e =
+    fill_done n (0 + n) f (run l 0 n f)
+    (fill_run n 0 n f f l (fill_none n f l e) (omega arith) (λ s h. ap f (sym (zero-add s)))) (omega arith)
 
-  -- Whole batches that passed check 7.
-  pub batches-fit : batches_wrong set conditions r ≡ false → BatchesFit whole
-  unfolding batches_wrong few grid
-  batches-fit e =
-      let passed = not-false _ e in
-      let small =
-      grid-each processes r.cells (pos 0) (whole_at set conditions r)
-      (λ z. nat_abs z ≤ most_batches) (lit< tt) (lit≤ tt)
-      (λ c p h l.
-      let cell = every_at r.cells c (λ d. every processes (few d)) passed h in
-      leb-true _ most_batches (every_at processes p (few c) cell l)) in
-      rw made (record { most = λ k h. rw (get_or-tab (most_cells * processes) _ k (pos 0) h) (small k) })
+module _ {A : Type 0} (w n : ℕ) (z : A) (f : ℕ → ℕ → A) where
+  abbrev row_of : ℕ → List A
+  row_of c = tab w (λ s. cond (ltb c n) (f c s) z)
 
-  -- It is not where they do not.
-  pub batches_many : (Pass whole → ⊥) → batches_wrong set conditions r ≡ true
-  batches_many many = go _ refl
-    where
-      go : (b : Bool) → batches_wrong set conditions r ≡ b → batches_wrong set conditions r ≡ true
-      go true e = e
-      go false e =
-          absurd
-          (many (λ k h. abs_le _ most_batches ((batches-fit e).most k h)))
+  -- The first c rows are made, and zeros follow.
+  pub record RowsMade (c : ℕ) (rows : List (List A)) : Type 0 where
+    pub made : FilledThen most_cells c row_of (replicate w z) rows
 
-  -- The amounts after.
-  pub amounts_are : (entries out : List ℤ) → entries ≡ rows_of set
-      → out ≡ applied_from r.cells r.amounts whole entries
-      → out ≡ stepped_amounts set conditions r
-  unfolding applied_from stepped_amounts new_amount
-  amounts_are entries out f e =
-      rw f at e
-      ∙ grid_eq most_cells substances r.cells (pos 0) _ _ (lit< tt)
-      (λ c s h l.
-      ap (λ (z : ℤ). get_or r.amounts (c * substances + s) (pos 0) +ℤ z)
-      (sum_eq processes _ _ (λ p k. ap₂ ◌*ℤ◌ (whole_in_cell c p h k) (get_or_rows set p s k l))))
+  pub made_none : RowsMade 0 (replicate most_cells (replicate w z))
+  made_none = record { made = then_none most_cells row_of (replicate w z) }
+
+  -- A row more.
+  pub made_next : (c : ℕ) (rows : List (List A)) (row : List A) → RowsMade c rows → c < n → n ≤ most_cells
+      → row ≡ tab w (f c) → RowsMade (c + 1) (set rows c row)
+  made_next c rows row i h most e =
+      let known : row ≡ tab w (λ s. cond (ltb c n) (f c s) z) = rw (lt-ltb c n h) e in
+      record {
+        made =
+            record {
+              filled = fill_more most_cells c _ rows row i.made.filled (omega arith) known;
+              rest =
+                  λ j k.
+                  get_or-set_other rows c j row (replicate w z) (λ q. absurd (omega arith)) ∙ i.made.rest j (omega arith);
+            };
+      }
+
+  -- All rows are made: joined, they are the grid.
+  pub made_done : (c : ℕ) (rows : List (List A)) → c ≡ n → RowsMade c rows
+      → flat_map (λ (x : List A). x) rows ≡ grid most_cells w n z f
+  unfolding grid
+  made_done c rows e i =
+      let beyond : (j : ℕ) → c ≤ j → j < most_cells → row_of j ≡ replicate w z =
+      λ j h k.
+      rw (le-ltb j n (omega arith))
+      (tab_eq w _ _ (λ s l. sym (replicate_at w s z)) ∙ sym (tab_of_list w z (replicate w z) (length-replicate w z))) in
+      ap (flat_map (λ (x : List A). x)) (then_done most_cells c row_of (replicate w z) rows i.made beyond)
+      ∙ rows_joined w most_cells (λ d s. cond (ltb d n) (f d s) z)

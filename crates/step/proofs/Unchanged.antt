@@ -15,11 +15,11 @@ use Rattle.rows.specs.Changing.{digit, may_change, Digits}
 use Rattle.step.specs.Inner.Stepping.{EntriesFit, added_from}
 
 -- Such a process adds nothing.
-pub added_none : (whole : List ℤ) (at : ℕ) (entries : List ℤ) (s p : ℕ) → EntriesFit entries → s < substances
-    → p < processes → may_change p s ≡ false → added_from whole at entries s p ≡ pos 0
-added_none whole at entries s p e l h none =
-    ap (λ (z : ℤ). get_or whole (at + p) (pos 0) *ℤ z) (e.zeros.each p s h l none)
-    ∙ *ℤ-zero (get_or whole (at + p) (pos 0))
+pub added_none : (whole entries : List ℤ) (s p : ℕ) → EntriesFit entries → s < substances
+    → p < processes → may_change p s ≡ false → added_from whole entries s p ≡ pos 0
+added_none whole entries s p e l h none =
+    ap (λ (z : ℤ). get_or whole p (pos 0) *ℤ z) (e.zeros.each p s h l none)
+    ∙ *ℤ-zero (get_or whole p (pos 0))
 
 -- The digits of half a number are those of the number from place 1 on.
 pub digit_half : (n p : ℕ) → digit n (p + 1) ≡ digit (n / 2) p

@@ -3,40 +3,37 @@ ghost use Rattle.std.specs.Prelude.{◌≡◌, ◌/◌, ◌<◌, nat_abs};
 ghost use Rattle.stoichiometry.specs.Substances.{substances};
 ghost use Rattle.stoichiometry.specs.Levels.{in_microgram};
 ghost use Rattle.kinetics.specs.Rates.{levels_of};
-ghost use Rattle.stoichiometry.specs.Totals.{amount_at};
-ghost use Rattle.step.specs.Inner.Rating.{CellFits, level_list, kept_levels};
+ghost use Rattle.step.specs.Inner.Rating.{CellFits, amount_in, level_list, kept_levels};
 
 use crate::levels::CellLevels;
-use river::AMOUNTS;
 use stoichiometry::{Microgram, SUBSTANCES, place};
 
-// Cell c of a river, whose amounts are in their bounds.
+// A cell of a river, whose amounts are in their bounds.
 #[derive(Clone, Copy)]
 pub(crate) struct Cell<'a> {
-    pub amounts: &'a [i64; AMOUNTS],
-    pub c: usize,
-    ghost fits: { CellFits amounts.now c },
+    pub amounts: &'a [i64; SUBSTANCES],
+    ghost fits: { CellFits amounts.now },
 }
 
 impl Cell<'_> {
     // The amount of the organic at place s, µg.
     fn amount(&self, s: usize) -> u64
         requires { s < substances }
-        ensures { result ≡ nat_abs (amount_at self.now.amounts.now self.now.c s) }
+        ensures { result ≡ nat_abs (amount_in self.now.amounts.now s) }
     {
-        self.amounts[self.c * SUBSTANCES + s].unsigned_abs()
+        self.amounts[s].unsigned_abs()
     }
 
     // The level of the dissolved substance at place s, µg.
     fn level(&self, s: usize, microgram: Microgram) -> u64
         requires { s < substances }
-        ensures { result ≡ nat_abs (amount_at self.now.amounts.now self.now.c s) / in_microgram microgram }
+        ensures { result ≡ nat_abs (amount_in self.now.amounts.now s) / in_microgram microgram }
     {
-        microgram.level(self.amounts[self.c * SUBSTANCES + s])
+        microgram.level(self.amounts[s])
     }
 
     pub(crate) fn levels(&self) -> CellLevels
-        ensures { level_list result ≡ kept_levels (levels_of (amount_at self.now.amounts.now self.now.c)) }
+        ensures { level_list result ≡ kept_levels (levels_of (amount_in self.now.amounts.now)) }
     {
         CellLevels {
             ss: self.amount(place::SS),

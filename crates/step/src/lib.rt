@@ -12,7 +12,6 @@ use stoichiometry::{Refusal, Set};
 
 mod apply;
 mod cell;
-mod cells;
 mod factors;
 mod levels;
 mod products;

@@ -1,11 +1,11 @@
 // Whole batches and new carries from extents and old carries, and check 7.
-ghost use Rattle.std.specs.Prelude.{◌≡◌, ◌+◌, ◌*◌, ◌/◌, ◌%◌, ◌≤◌, ◌↔◌, pos, IsTrue};
-ghost use Rattle.numeric.specs.Table.{run};
+ghost use Rattle.std.specs.Prelude.{◌≡◌, ◌+◌, ◌/◌, ◌%◌, ◌≤◌, ◌↔◌, pos, IsTrue};
+ghost use Rattle.numeric.specs.Table.{tab};
 ghost use Rattle.stoichiometry.specs.Rows.{processes};
-ghost use Rattle.river.specs.Rivers.{most_cells, most_carry};
+ghost use Rattle.river.specs.Rivers.{most_carry};
 ghost use Rattle.step.specs.Inner.Stepping.{most_extent, ExtentsFit, CarriesFit, whole_of, rest_of, Pass};
 
-use river::{CARRIES, River};
+use river::River;
 use stoichiometry::PROCESSES;
 
 // One batch, in millionths.
@@ -20,31 +20,27 @@ fn divided(carry: u32, extent: u64) -> (i64, u32)
     ((carried / BATCH) as i64, (carried % BATCH) as u32)
 }
 
-// The whole batches and the new carries of one cell, whose carries stand from `at` on. The lists whole: of parts, three
-// would be cut out at the call, and each put back.
+// Writes the whole batches and the new carries of one cell. Into arrays that are lent: where they are answered, a step
+// takes 1.06 times as many instructions, which copy them.
 pub(crate) fn split(
     extents: &[u64; PROCESSES],
-    carries: &[u32; CARRIES],
-    at: usize,
-    whole: &mut [i64; CARRIES],
-    rest: &mut [u32; CARRIES],
+    carries: &[u32; PROCESSES],
+    whole: &mut [i64; PROCESSES],
+    rest: &mut [u32; PROCESSES],
 )
-    requires { (at + processes ≤ most_cells * processes) × ExtentsFit extents.now × CarriesFit carries.now }
-    ensures whole_after { whole.new ≡ run whole.old at processes
-        (whole_of extents.now carries.now at) }
-    ensures rest_after { rest.new ≡ run rest.old at processes
-        (rest_of extents.now carries.now at) }
+    requires { ExtentsFit extents.now × CarriesFit carries.now }
+    ensures whole_after { whole.new ≡ tab processes (whole_of extents.now carries.now) }
+    ensures rest_after { rest.new ≡ tab processes (rest_of extents.now carries.now) }
 {
     for (p, extent) in extents.iter().enumerate() {
-        let (batches, left) = divided(carries[at + p], *extent);
-        whole[at + p] = batches;
-        rest[at + p] = left;
+        let (batches, left) = divided(carries[p], *extent);
+        whole[p] = batches;
+        rest[p] = left;
     }
 }
 
-// Check 7: no process of any cell reaches more than 100,000 whole batches. All cells there can be are tested, so that a
-// compiler sees how many: those beyond the river's have none.
-pub(crate) fn batches_fit(whole: &[i64; CARRIES]) -> bool
+// Check 7: no process of a cell reaches more than 100,000 whole batches.
+pub(crate) fn batches_fit(whole: &[i64; PROCESSES]) -> bool
     ensures { IsTrue result ↔ Pass whole.now }
 {
     whole.iter().all(|batches| *batches <= River::BATCHES_MOST)

@@ -18,8 +18,7 @@ overflow_cast-river c =
 
 pub read_cells-requires-clause-cells_in_text : goal.read_cells-requires-clause-cells_in_text
 read_cells-requires-clause-cells_in_text c =
-    let size = size_known c.args.text.now (sym c.if-not-size_fits.ensures) in
-    (size.0, omega (arith, size.1))
+    (size_known c.args.text.now (sym c.if-not-size_fits.ensures)).0
 
 -- Some line has no value.
 pub returns-in_default : goal.returns-in_default

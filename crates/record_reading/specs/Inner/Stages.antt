@@ -1,15 +1,30 @@
--- What the inner functions of the reader hand to each other: a river's arrays over which the values of a cell of a text
--- are stored. No assumptions.
-use Rattle.std.specs.Prelude.{ℕ, ◌+◌, ◌*◌, List, ℤ, nat_abs}
+-- What the inner functions of the reader hand to each other: the values of a cell by its text alone, and a river's arrays
+-- over which they are stored. No assumptions.
+use Rattle.std.specs.Prelude.{ℕ, ◌+◌, ◌*◌, Bool, List, ℤ, pos, nat_abs, Option, is_some, unwrap_or}
+use Rattle.numeric.specs.Check.{every}
 use Rattle.numeric.specs.Table.{run}
 use Rattle.stoichiometry.specs.Substances.{substances}
 use Rattle.stoichiometry.specs.Rows.{processes}
-use Rattle.record_reading.specs.Reading.{number_at}
+use Rattle.text.specs.Blocks.{part}
+use Rattle.record.specs.Lines.{lines, line_bytes}
+use Rattle.record_reading.specs.Reading.{line_value, lowest_on, highest_on}
 
--- The amounts, after those of cell c of the text t.
+-- The value on line k of the text of cell c, both from 0.
+unfoldable pub value_in : List ℕ → ℕ → ℕ → Option ℤ
+value_in t c k = line_value (part (k * line_bytes) line_bytes t) (c + 1) (k + 1) (lowest_on k) (highest_on k)
+
+-- It as a number, 0 where there is none.
+abbrev pub number_in : List ℕ → ℕ → ℕ → ℤ
+number_in t c k = unwrap_or (value_in t c k) (pos 0)
+
+-- Every line of it has its value.
+abbrev pub cell_found : List ℕ → ℕ → Bool
+cell_found t c = every lines (λ k. is_some (value_in t c k))
+
+-- The amounts, after those of cell c, whose text is t.
 abbrev pub amounts_stored : List ℕ → ℕ → List ℤ → List ℤ
-amounts_stored t c amounts = run amounts (c * substances) substances (number_at t c)
+amounts_stored t c amounts = run amounts (c * substances) substances (number_in t c)
 
 -- The carries.
 abbrev pub carries_stored : List ℕ → ℕ → List ℕ → List ℕ
-carries_stored t c carries = run carries (c * processes) processes (λ p. nat_abs (number_at t c (substances + p)))
+carries_stored t c carries = run carries (c * processes) processes (λ p. nat_abs (number_in t c (substances + p)))

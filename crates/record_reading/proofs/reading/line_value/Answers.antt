@@ -15,12 +15,12 @@ returns-then-front_right c =
     let highest = ap kept c.limits_on-lowest.ensures.highest ∙ (limits_kept c.args.k).1 in
     c.read_decimal.ensures.answer
     ∙ (λ i. parse (lowest i) (highest i) (part 6 20 c.args.line.now))
-    ∙ sym (line_read c.args.line.now c.requires.0 _ _ _ _ right c.if-line-eq10.true)
+    ∙ sym (line_read c.args.line.now c.told-line _ _ _ _ right c.if-line-eq10.true)
 
 pub returns-else-line-eq10 : goal.returns-else-line-eq10
 returns-else-line-eq10 c =
     elim c.else-line-eq10.branch [
       | else-line-eq10-via-then-line-eq10+else-front_right w ↦
-          sym (front_refused c.args.line.now c.requires.0 _ _ _ _ (sym w.front_right.ensures ∙ w.if-front_right.false))
-      | else-line-eq10-via-else-line-eq10 w ↦ sym (end_refused c.args.line.now c.requires.0 _ _ _ _ w.if-line-eq10.false)
+          sym (front_refused c.args.line.now c.told-line _ _ _ _ (sym w.front_right.ensures ∙ w.if-front_right.false))
+      | else-line-eq10-via-else-line-eq10 w ↦ sym (end_refused c.args.line.now c.told-line _ _ _ _ w.if-line-eq10.false)
     ]

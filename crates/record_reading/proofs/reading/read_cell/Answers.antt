@@ -1,5 +1,5 @@
 -- `read_cell` meets its contract: a line without a value, or a line more (proofs/ReadCells.antt). No assumptions.
-use Rattle.std.proofs.Common.{◌≡◌, ◌+◌, ◌-◌, ℕ, refl, sym, ap, ◌∙◌, arith, is_some, nat_abs}
+use Rattle.std.proofs.Common.{◌≡◌, ◌<◌, ◌+◌, ◌-◌, ℕ, refl, sym, ap, ◌∙◌, arith, is_some, nat_abs}
 use lib.Signed.{yes_non_neg}
 use mir.Facts.{Fits-below}
 use Rattle.numeric.proofs.CheckLaws.{every-none, every_more, every_fails}
@@ -7,8 +7,8 @@ use Rattle.numeric.proofs.Filling.{run_none}
 use Rattle.stoichiometry.specs.Substances.{substances}
 use Rattle.river.specs.declared.River.{River}
 use Rattle.record.specs.Lines.{lines}
-use Rattle.record_reading.specs.Reading.{number_at}
-use Rattle.record_reading.proofs.ReadCells.{value_found, value_some, value_kept, carry_range}
+use Rattle.record_reading.specs.Inner.Stages.{number_in}
+use Rattle.record_reading.proofs.ReadCells.{line_is, value_found, value_some, value_kept, carry_range}
 use Rattle.record_reading.proofs.ReadCells.{amount_stored, amounts_kept, carry_stored, carries_kept}
 use Rattle.record_reading.proofs.reading.read_cell.Goals as goal
 use Rattle.record_reading.proofs.reading.read_cell.Goals.{then-k-lt-SUBSTANCES, else-k-lt-SUBSTANCES}
@@ -20,14 +20,18 @@ loop-k-init c = (every-none _, refl, run_none _ _ _, run_none _ _ _)
 pub returns-in_err-value-clause-value : goal.returns-in_err-value-clause-value
 returns-in_err-value-clause-value c =
     let k = c.loop-k.k in
-    let found = value_found c.args.text.now c.args.c k _ _ (omega arith) c.line_value.ensures in
+    let inside : c.loop-k.k < lines = omega (arith, c.loop-k-test.true, c.as_chunks.ensures.front_len, c.told-text) in
+    let cut = line_is c.args.text.now _ k c.as_chunks.ensures.front c.told-text inside in
+    let found = value_found c.args.text.now c.args.c k _ _ cut c.line_value.ensures in
     ap is_some c.from_residual.ensures
-    ∙ sym (every_fails lines _ _ c.loop-k-test.true (ap is_some (sym found ∙ c.in_err-value.was)))
+    ∙ sym (every_fails lines _ _ inside (ap is_some (sym found ∙ c.in_err-value.was)))
 
 pub overflow_cast-river : goal.overflow_cast-river
 overflow_cast-river c =
     let k = c.loop-k.k in
-    let found = value_found c.args.text.now c.args.c k _ _ (omega arith) c.line_value.ensures in
+    let inside : c.loop-k.k < lines = omega (arith, c.loop-k-test.true, c.as_chunks.ensures.front_len, c.told-text) in
+    let cut = line_is c.args.text.now _ k c.as_chunks.ensures.front c.told-text inside in
+    let found = value_found c.args.text.now c.args.c k _ _ cut c.line_value.ensures in
     let some = sym found ∙ c.in_ok-value.was in
     let range = carry_range c.args.text.now c.args.c k c.if-k-lt-SUBSTANCES.false (value_some _ _ k _ some) in
     rw (value_kept _ _ k _ some) (yes_non_neg range.0, Fits-below {n = 1000000} tt (omega (arith, range.1)))
@@ -35,7 +39,9 @@ overflow_cast-river c =
 pub loop-k-preserved : goal.loop-k-preserved
 loop-k-preserved c =
     let k = c.loop-k.k in
-    let found = value_found c.args.text.now c.args.c k _ _ (omega arith) c.line_value.ensures in
+    let inside : c.loop-k.k < lines = omega (arith, c.loop-k-test.true, c.as_chunks.ensures.front_len, c.told-text) in
+    let cut = line_is c.args.text.now _ k c.as_chunks.ensures.front c.told-text inside in
+    let found = value_found c.args.text.now c.args.c k _ _ cut c.line_value.ensures in
     let some = sym found ∙ c.in_ok-value.was in
     let kept = value_kept c.args.text.now c.args.c k c.in_ok-value.value some in
     let more = every_more k _ c.loop-k.invariant.0 (value_some c.args.text.now c.args.c k c.in_ok-value.value some) in
@@ -50,7 +56,7 @@ loop-k-preserved c =
       | else-k-lt-SUBSTANCES w ↦
           let h = w.if-k-lt-SUBSTANCES.false in
           let line : substances + (k - substances) ≡ k = omega arith in
-          let at_line = ap (λ (q : ℕ). nat_abs (number_at c.args.text.now c.args.c q)) (sym line) in (
+          let at_line = ap (λ (q : ℕ). nat_abs (number_in c.args.text.now c.args.c q)) (sym line) in (
             more,
             ap (λ (r : River). r.cells) w.river-is ∙ c.loop-k.invariant.1,
             ap (λ (r : River). r.amounts) w.river-is ∙ amounts_kept _ _ _ k _ h c.loop-k.invariant.2,

@@ -5,12 +5,12 @@ use Rattle.numeric.specs.Check.{every}
 use Rattle.numeric.specs.Table.{run}
 use Rattle.stoichiometry.specs.Rows.{processes}
 use Rattle.stoichiometry.specs.Substances.{substances}
-use Rattle.record_reading.specs.Reading.{value_at, number_at}
+use Rattle.record_reading.specs.Inner.Stages.{value_in, number_in}
 use Rattle.record_reading.proofs.reading.read_cell.Given as goal
 
 abbrev pub invariant-loop-k : goal.invariant-loop-k
 invariant-loop-k l =
-    (every l.k (λ q. is_some (value_at l.text l.c q)) ≡ true)
+    (every l.k (λ q. is_some (value_in l.text l.c q)) ≡ true)
     × (l.river.cells ≡ l.fn.river.cells)
-    × (l.river.amounts ≡ run l.fn.river.amounts (l.c * substances) (l.k - (l.k - substances)) (number_at l.text l.c))
-    × (l.river.carries ≡ run l.fn.river.carries (l.c * processes) (l.k - substances) (λ p. nat_abs (number_at l.text l.c (substances + p))))
+    × (l.river.amounts ≡ run l.fn.river.amounts (l.c * substances) (l.k - (l.k - substances)) (number_in l.text l.c))
+    × (l.river.carries ≡ run l.fn.river.carries (l.c * processes) (l.k - substances) (λ p. nat_abs (number_in l.text l.c (substances + p))))

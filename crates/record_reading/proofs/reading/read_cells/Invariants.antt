@@ -6,12 +6,12 @@ use Rattle.numeric.proofs.GridLaws.{RowsFilled}
 use Rattle.stoichiometry.specs.Rows.{processes}
 use Rattle.stoichiometry.specs.Substances.{substances}
 use Rattle.river.specs.Rivers.{most_cells}
-use Rattle.record_reading.specs.Reading.{number_at, cell_right}
+use Rattle.record_reading.specs.Reading.{number_at, cell_right, cells_in}
 use Rattle.record_reading.proofs.reading.read_cells.Given as goal
 
 abbrev pub invariant-loop-c : goal.invariant-loop-c
 invariant-loop-c l =
     (every l.c (cell_right l.text) ≡ true)
     × (l.river.cells ≡ l.fn.river.cells)
-    × RowsFilled most_cells substances l.n (pos 0) (number_at l.text) l.c l.river.amounts
-    × RowsFilled most_cells processes l.n 0 (λ d p. nat_abs (number_at l.text d (substances + p))) l.c l.river.carries
+    × RowsFilled most_cells substances (cells_in l.text) (pos 0) (number_at l.text) l.c l.river.amounts
+    × RowsFilled most_cells processes (cells_in l.text) 0 (λ d p. nat_abs (number_at l.text d (substances + p))) l.c l.river.carries

@@ -1,11 +1,39 @@
--- The batches, the amounts and the carries that were made are those of the definitions (proofs/StepLaws.antt).
--- No assumptions.
-use mathlib.Core.Bool.{true≢false}
-use Rattle.std.proofs.Common.{refl, sym}
-use Rattle.river.proofs.Rivers.{river-cells, amount_bound}
+-- A cell is stepped as the definition says (proofs/StepLoop.antt), and a row more is made in both lists; joined, the rows
+-- are the definition's lists (proofs/StepLaws.antt). No assumptions.
+use Rattle.std.proofs.Common.{◌≡◌, ◌*◌, rules, refl, sym, ◌∙◌, arith, length}
+use lib.IntN.{pos}
+use Rattle.std.proofs.lemmas.Result.{err_from_is_err_and}
+use Rattle.numeric.proofs.CheckLaws.{every-none, every_more}
+use Rattle.stoichiometry.specs.Rows.{processes}
+use Rattle.stoichiometry.specs.Substances.{substances}
+use Rattle.river.specs.Rivers.{most_cells}
+use Rattle.river.proofs.Rivers.{river-cells}
+use Rattle.step.specs.Steps.{stepped_amounts, stepped_carries}
 use Rattle.step.proofs.RatingLaws.{halves-fit}
-use Rattle.step.proofs.StepLaws.{batches_pass, batches_many, batches-fit, amounts_are}
+use Rattle.step.proofs.StepLoop.{cell_fits_lem, carries_fit_lem, few_at, amounts_at, carries_at}
+use Rattle.step.proofs.StepLoop.{all_few, one_many, few_passed, few_refused}
+use Rattle.step.proofs.StepLaws.{made_none, made_next, made_done}
 use Rattle.step.proofs.stepping.step_cells.Goals as goal
+
+pub loop-c-init : goal.loop-c-init
+loop-c-init c =
+    record { passed = every-none _; stepped = made_none substances _ (pos 0) _; kept = made_none processes _ 0 _ }
+
+pub bounds-cells-c : goal.bounds-cells-c
+bounds-cells-c c =
+    let long : length c.args.checked.now.river.now.amounts ≡ most_cells * substances = search rules in
+    omega (arith, c.as_chunks.ensures.front_len, long, (river-cells c.args.checked.now.river.now c.args.checked.now.right).1)
+
+pub bounds-carries-c : goal.bounds-carries-c
+bounds-carries-c c =
+    let long : length c.args.checked.now.river.now.carries ≡ most_cells * processes = search rules in
+    omega (arith, c.as_chunks-2.ensures.front_len, long, (river-cells c.args.checked.now.river.now c.args.checked.now.right).1)
+
+pub bounds-after-c : goal.bounds-after-c
+bounds-after-c c = omega (arith, (river-cells c.args.checked.now.river.now c.args.checked.now.right).1)
+
+pub bounds-left-c : goal.bounds-left-c
+bounds-left-c c = omega (arith, (river-cells c.args.checked.now.river.now c.args.checked.now.right).1)
 
 pub invariant_of-rates : goal.invariant_of-rates
 invariant_of-rates c =
@@ -17,40 +45,80 @@ invariant_of-rates c =
       sized = c.batches_of.ensures.answer;
     }
 
-pub make_batches-requires : goal.make_batches-requires
-make_batches-requires c = (refl, c.requires.2)
+pub invariant_of-cell : goal.invariant_of-cell
+invariant_of-cell c =
+    let r = c.args.checked.now.river.now in
+    let long : length r.amounts ≡ most_cells * substances = search rules in
+    let longer : length r.carries ≡ most_cells * processes = search rules in
+    let cells = rw long at c.as_chunks.ensures.front in
+    let kept = rw longer at c.as_chunks-2.ensures.front in
+    record { fits = cell_fits_lem r c.args.checked.now.right _ _ cells kept c.loop-c.c c.loop-c-test.true }
 
-pub invariant_of-terms : goal.invariant_of-terms
-invariant_of-terms c =
+pub step_cell-requires : goal.step_cell-requires
+step_cell-requires c =
+    let r = c.args.checked.now.river.now in
+    let long : length r.amounts ≡ most_cells * substances = search rules in
+    let longer : length r.carries ≡ most_cells * processes = search rules in
+    let cells = rw long at c.as_chunks.ensures.front in
+    let kept = rw longer at c.as_chunks-2.ensures.front in
+    carries_fit_lem r c.args.checked.now.right _ _ cells kept c.loop-c.c c.loop-c-test.true
+
+-- The cell does not pass check 7.
+pub returns-in_err-step_cell-clause-batches : goal.returns-in_err-step_cell-clause-batches
+returns-in_err-step_cell-clause-batches c =
     let a = c.args in
+    let r = a.checked.now.river.now in
+    let n = c.loop-c.c in
+    let long : length r.amounts ≡ most_cells * substances = search rules in
+    let longer : length r.carries ≡ most_cells * processes = search rules in
+    let cells = rw long at c.as_chunks.ensures.front in
+    let kept = rw longer at c.as_chunks-2.ensures.front in
+    let handed = err_from_is_err_and c.from_residual.result c.from_residual.ensures.1 in
+    let known = few_refused _ _ c.in_err-step_cell.ensures.batches in
+    let same = few_at r c.args.checked.now.right _ _ cells kept n c.loop-c-test.true a.set a.conditions in
+    let wrong = one_many a.set a.conditions r n c.loop-c-test.true (sym same ∙ known.0) in
+    rw (handed.1, handed.2, known.1, wrong) refl
+
+pub loop-c-preserved : goal.loop-c-preserved
+loop-c-preserved c =
+    let a = c.args in
+    let r = a.checked.now.river.now in
     let right = c.args.checked.now.right in
-    let whole = c.make_batches.ensures.whole_after in
-    let passed = batches_pass a.set a.conditions a.checked.now.river.now right _ whole (c.if-not-batches_fit.ensures.0 refl) in
+    let n = c.loop-c.c in
+    let h = c.loop-c-test.true in
+    let inv = c.loop-c.invariant in
+    let ok = c.in_ok-step_cell.ensures in
+    let most = (river-cells r right).1 in
+    let long : length r.amounts ≡ most_cells * substances = search rules in
+    let longer : length r.carries ≡ most_cells * processes = search rules in
+    let cells = rw long at c.as_chunks.ensures.front in
+    let kept = rw longer at c.as_chunks-2.ensures.front in
     record {
-      amounts_fit = record { most = λ k h. amount_bound a.checked.now.river.now right k h };
-      batches_fit = batches-fit a.set a.conditions a.checked.now.river.now right _ whole passed;
-      entries_fit = c.requires.0.fit;
+      passed =
+          every_more n _ inv.passed
+          (sym (few_at r right _ _ cells kept n h a.set a.conditions) ∙ few_passed _ ok.batches);
+      stepped =
+          made_next substances r.cells (pos 0) _ n _ _ inv.stepped h most
+          (ok.amounts_after ∙ amounts_at r right _ _ cells kept n h a.set a.conditions);
+      kept =
+          made_next processes r.cells 0 _ n _ _ inv.kept h most
+          (ok.rest_after ∙ carries_at r right _ _ cells kept n h a.set a.conditions);
     }
 
-pub apply_cells-requires : goal.apply_cells-requires
-apply_cells-requires c = ((river-cells c.args.checked.now.river.now c.args.checked.now.right).1, c.requires.1)
-
-pub returns : goal.returns
-returns c =
+pub returns-clause-batches : goal.returns-clause-batches
+returns-clause-batches c =
     let a = c.args in
-    let right = c.args.checked.now.right in
-    let whole = c.make_batches.ensures.whole_after in
-    let passed = batches_pass a.set a.conditions a.checked.now.river.now right _ whole (c.if-not-batches_fit.ensures.0 refl) in
-    record {
-      batches = rw passed refl;
-      amounts_after = amounts_are a.set a.conditions a.checked.now.river.now right _ whole _ _ c.requires.0.ready.rows c.apply_cells.ensures;
-      rest_after = c.make_batches.ensures.rest_after;
-    }
+    let finished : c.loop-c.c ≡ a.checked.now.river.now.cells = omega arith in
+    rw (all_few a.set a.conditions a.checked.now.river.now (rw finished at c.loop-c.invariant.passed)) refl
 
-pub returns-then-not-batches_fit : goal.returns-then-not-batches_fit
-returns-then-not-batches_fit c =
-    let a = c.args in
-    let many =
-    batches_many a.set a.conditions a.checked.now.river.now c.args.checked.now.right _ c.make_batches.ensures.whole_after
-    (λ pass. true≢false (sym (c.if-not-batches_fit.ensures.1 pass))) in
-    record { batches = rw many refl; amounts_after = tt; rest_after = tt }
+pub returns-clause-amounts_after : goal.returns-clause-amounts_after
+unfolding stepped_amounts
+returns-clause-amounts_after c =
+    c.copy_from_slice.ensures.after ∙ c.as_flattened.ensures.value
+    ∙ made_done substances c.args.checked.now.river.now.cells (pos 0) _ c.loop-c.c _ (omega arith) c.loop-c.invariant.stepped
+
+pub returns-clause-rest_after : goal.returns-clause-rest_after
+unfolding stepped_carries
+returns-clause-rest_after c =
+    c.copy_from_slice-2.ensures.after ∙ c.as_flattened-2.ensures.value
+    ∙ made_done processes c.args.checked.now.river.now.cells 0 _ c.loop-c.c _ (omega arith) c.loop-c.invariant.kept

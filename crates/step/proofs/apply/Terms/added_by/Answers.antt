@@ -5,4 +5,4 @@ use Rattle.step.proofs.apply.Terms.added_by.Goals as goal
 pub returns-then-changes : goal.returns-then-changes
 returns-then-changes c =
     let terms = c.args.self.now in
-    term_kept _ _ terms.batches_fit terms.entries_fit c.args.c c.args.s c.requires.0 c.args.p c.requires.2
+    term_kept _ _ terms.batches_fit terms.entries_fit c.args.s c.args.p c.requires.1

@@ -1,10 +1,9 @@
 -- The digit of a process says whether it is added, and each total fits. No assumptions.
-use Rattle.std.proofs.Common.{◌+◌, ◌*◌, ◌≡◌, sym, ap, ◌∙◌, arith}
-use lib.IntN.{pos}
-use lib.ListN.{get_or}
+use Rattle.std.proofs.Common.{◌+◌, ◌≡◌, sym, ap, ◌∙◌, arith}
 use mir.Facts.{to_z-of_z}
 use Rattle.rows.specs.Changing.{digit}
-use Rattle.stoichiometry.specs.Substances.{substances}
+use Rattle.river.proofs.Bounds.{fits_bound}
+use Rattle.step.specs.Inner.Rating.{amount_in}
 use Rattle.step.proofs.StepArithmetic.{total_none, total_more}
 use Rattle.step.proofs.Unchanged.{digit_half}
 use Rattle.step.proofs.apply.Terms.amount_after.Goals as goal
@@ -13,12 +12,11 @@ pub loop-p-init : goal.loop-p-init
 loop-p-init c =
     let a = c.args in
     let terms = a.self.now in
-    let k = a.c * substances + a.s in
     record {
       left = λ j. ap (digit a.changing) (omega arith);
       summed =
-          total_none _ _ terms.batches_fit terms.entries_fit a.c a.s c.requires.0 (get_or terms.amounts.now k (pos 0))
-          (terms.amounts_fit.most k (omega arith));
+          total_none _ _ terms.batches_fit terms.entries_fit a.s (amount_in terms.amounts.now a.s)
+          (fits_bound a.s _ c.requires.0 (terms.amounts_fit.amount a.s c.requires.0));
     }
 
 pub added_by-total-requires : goal.added_by-total-requires
@@ -26,17 +24,16 @@ unfolding digit
 added_by-total-requires c =
     let p = c.loop-p.p in
     let place : p + 0 ≡ p = omega arith in
-    let told = c.requires.2 p c.loop-p-test.true in
-    (c.requires.0, c.requires.1, c.loop-p-test.true, c.loop-p.invariant.left 0 ∙ ap (digit c.args.changing) place ∙ told)
+    let told = c.requires.1 p c.loop-p-test.true in
+    (c.requires.0, c.loop-p-test.true, c.loop-p.invariant.left 0 ∙ ap (digit c.args.changing) place ∙ told)
 
-pub overflow_add-total-in-loop-p : goal.overflow_add-total-in-loop-p
-overflow_add-total-in-loop-p c =
+pub overflow_add-total : goal.overflow_add-total
+overflow_add-total c =
     let a = c.args in
     let terms = a.self.now in
-    let k = a.c * substances + a.s in
     let next =
-    total_more _ _ terms.batches_fit terms.entries_fit a.c a.s c.requires.0 (get_or terms.amounts.now k (pos 0)) c.loop-p.p
-    _ _ c.loop-p.invariant.summed c.added_by-total.ensures (terms.amounts_fit.most k (omega arith))
+    total_more _ _ terms.batches_fit terms.entries_fit a.s (amount_in terms.amounts.now a.s) c.loop-p.p
+    _ _ c.loop-p.invariant.summed c.added_by-total.ensures (fits_bound a.s _ c.requires.0 (terms.amounts_fit.amount a.s c.requires.0))
     c.loop-p-test.true in
     rw next.0 next.1
 
@@ -44,11 +41,10 @@ pub loop-p-preserved : goal.loop-p-preserved
 loop-p-preserved c =
     let a = c.args in
     let terms = a.self.now in
-    let k = a.c * substances + a.s in
     let p = c.loop-p.p in
     let next =
-    total_more _ _ terms.batches_fit terms.entries_fit a.c a.s c.requires.0 (get_or terms.amounts.now k (pos 0)) p
-    _ _ c.loop-p.invariant.summed c.added_by-total.ensures (terms.amounts_fit.most k (omega arith))
+    total_more _ _ terms.batches_fit terms.entries_fit a.s (amount_in terms.amounts.now a.s) p
+    _ _ c.loop-p.invariant.summed c.added_by-total.ensures (fits_bound a.s _ c.requires.0 (terms.amounts_fit.amount a.s c.requires.0))
     c.loop-p-test.true in
     record {
       left =

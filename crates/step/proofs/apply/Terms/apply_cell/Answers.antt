@@ -1,11 +1,17 @@
 -- 18 amounts are stored one after the other. No assumptions.
-use Rattle.std.proofs.Common.{refl}
+use Rattle.std.proofs.Common.{◌≡◌, refl, ◌∙◌}
 use Rattle.numeric.specs.Table.{run}
+use Rattle.stoichiometry.specs.Substances.{substances}
+use Rattle.step.specs.Inner.Stepping.{new_from}
+use Rattle.step.proofs.StepLaws.{run_whole}
 use Rattle.step.proofs.apply.Terms.apply_cell.Goals as goal
 
 pub returns : goal.returns
 unfolding run
 returns c =
+    let terms = c.args.self.now in
+    let amount = new_from terms.amounts.now terms.batches.now terms.entries.now in
+    let stored : c.apply_one-18.new.after ≡ run c.args.after.now 0 substances amount =
     rw (
       c.apply_one-18.ensures,
       c.apply_one-17.ensures,
@@ -26,4 +32,5 @@ returns c =
       c.apply_one-2.ensures,
       c.apply_one.ensures,
     )
-    refl
+    refl in
+    stored ∙ run_whole substances amount c.args.after.now c.told-after

@@ -12,7 +12,7 @@ pub invariant_of-result : goal.invariant_of-result
 unfolding level_of
 invariant_of-result c =
     let cell = c.args.self.now in
-    let most = cell-level_bound cell.amounts.now cell.c cell.fits in
+    let most = cell-level_bound cell.amounts.now cell.fits in
     record {
       fit = (
         under c.amount.ensures (most (organic ss)),

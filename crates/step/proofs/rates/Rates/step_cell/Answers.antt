@@ -1,0 +1,57 @@
+-- The carries and the amounts that are made are those of the definitions (proofs/StepLoop.antt), where check 7 is
+-- passed. No assumptions.
+use mathlib.Core.Bool.{true≢false}
+use Rattle.std.proofs.Common.{refl, sym, ◌∙◌}
+use Rattle.step.proofs.ExtentBounds.{extents_fit}
+use Rattle.step.proofs.StepLoop.{batches_pass, batches_many, batches-fit, amounts_are, rest_made}
+use Rattle.step.proofs.rates.Rates.step_cell.Goals as goal
+
+pub split-requires : goal.split-requires
+split-requires c =
+    let cell = c.args.cell.now in
+    let rates = c.args.self.now in
+    let small = extents_fit cell.amounts.now cell.fits rates.set rates.conditions _ rates.ready in
+    (rw c.cell_extents-extents.ensures small, c.requires)
+
+pub returns-then-not-batches_fit-clause-batches : goal.returns-then-not-batches_fit-clause-batches
+returns-then-not-batches_fit-clause-batches c =
+    let rates = c.args.self.now in
+    let whole = rw c.cell_extents-extents.ensures at c.split.ensures.whole_after in
+    let many =
+    batches_many rates.set rates.conditions c.args.cell.now.amounts.now c.args.carries.now _ whole
+    (λ pass. true≢false (sym (c.if-not-batches_fit.ensures.1 pass))) in
+    rw many refl
+
+pub invariant_of-terms : goal.invariant_of-terms
+invariant_of-terms c =
+    let rates = c.args.self.now in
+    let whole = rw c.cell_extents-extents.ensures at c.split.ensures.whole_after in
+    let cell = c.args.cell.now.amounts.now in
+    let passed = batches_pass rates.set rates.conditions cell c.args.carries.now _ whole (c.if-not-batches_fit.ensures.0 refl) in
+    record {
+      amounts_fit = c.args.cell.now.fits;
+      batches_fit = batches-fit rates.set rates.conditions cell c.args.carries.now _ whole passed;
+      entries_fit = rates.entries_fit;
+    }
+
+pub returns-clause-batches : goal.returns-clause-batches
+returns-clause-batches c =
+    let rates = c.args.self.now in
+    let whole = rw c.cell_extents-extents.ensures at c.split.ensures.whole_after in
+    let passed =
+    batches_pass rates.set rates.conditions c.args.cell.now.amounts.now c.args.carries.now _ whole
+    (c.if-not-batches_fit.ensures.0 refl) in
+    rw passed refl
+
+pub returns-clause-amounts_after : goal.returns-clause-amounts_after
+returns-clause-amounts_after c =
+    let rates = c.args.self.now in
+    let whole = rw c.cell_extents-extents.ensures at c.split.ensures.whole_after in
+    c.apply_cell.ensures
+    ∙ amounts_are rates.set rates.conditions c.args.cell.now.amounts.now c.args.carries.now _ whole _ rates.ready.rows
+
+pub returns-clause-rest_after : goal.returns-clause-rest_after
+returns-clause-rest_after c =
+    let rates = c.args.self.now in
+    rw c.cell_extents-extents.ensures at c.split.ensures.rest_after
+    ∙ rest_made rates.set rates.conditions c.args.cell.now.amounts.now c.args.carries.now

@@ -1,0 +1,24 @@
+-- The first c cells passed check 7 and are stepped, and zeros follow. No assumptions.
+use Rattle.std.proofs.Common.{◌≡◌, true}
+use lib.IntN.{pos}
+use Rattle.numeric.specs.Check.{every}
+use Rattle.stoichiometry.specs.Rows.{processes}
+use Rattle.stoichiometry.specs.Substances.{substances}
+use Rattle.stoichiometry.specs.Totals.{amount_at}
+use Rattle.river.specs.Rivers.{carry_at}
+use Rattle.step.specs.Steps.{new_amount, new_carry}
+use Rattle.step.specs.Inner.Stepping.{batches_few}
+use Rattle.step.proofs.StepLaws.{RowsMade}
+use Rattle.step.proofs.stepping.step_cells.Given as goal
+
+abbrev pub invariant-loop-c : goal.invariant-loop-c
+invariant-loop-c l =
+    record {
+      passed : every l.c (λ c. batches_few l.fn.set l.fn.conditions (amount_at l.checked.river.now.amounts c) (carry_at l.checked.river.now.carries c)) ≡ true;
+      stepped :
+          RowsMade substances l.checked.river.now.cells (pos 0)
+          (λ c. new_amount l.fn.set l.fn.conditions (amount_at l.checked.river.now.amounts c) (carry_at l.checked.river.now.carries c)) l.c l.after;
+      kept :
+          RowsMade processes l.checked.river.now.cells 0
+          (λ c. new_carry l.fn.set l.fn.conditions (amount_at l.checked.river.now.amounts c) (carry_at l.checked.river.now.carries c)) l.c l.left;
+    }
