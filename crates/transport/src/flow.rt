@@ -40,7 +40,8 @@ impl Part {
         self.of(amount as u64) as i64
     }
 
-    // What leaves each cell, written over what `left` has.
+    // What leaves each cell, written over what `left` has. By place: what a `zip` with `iter_mut` writes the proof does
+    // not learn, and with an array answered by `from_fn` a flow takes 1.02 of the reference's time for 0.90.
     pub(crate) fn leave_cells(self, amounts: &[i64; AMOUNTS], left: &mut [i64; AMOUNTS])
         requires { AmountsWithin most_net amounts.now }
         ensures { left.new ≡ left_of self.value amounts.now }
