@@ -40,7 +40,8 @@ impl Part {
         self.of(amount as u64) as i64
     }
 
-    // What leaves each cell, written over what `left` has.
+    // What leaves each cell, written over what `left` has. By place: what a `zip` with `iter_mut` writes the proof does
+    // not learn, and with an array answered by `from_fn` a flow takes 1.02 of the reference's time for 0.90.
     pub(crate) fn leave_cells(self, amounts: &[i64; AMOUNTS], left: &mut [i64; AMOUNTS])
         requires { AmountsWithin most_net amounts.now }
         ensures { left.new ≡ left_of self.value amounts.now }
@@ -52,7 +53,8 @@ impl Part {
 }
 
 // The amounts after: what left is taken from each, and comes into the next cell. Nothing comes into the first cell, nor
-// beyond the last.
+// beyond the last. By place, as above: with `from_fn` the differences need a function of their own, for the proof, and
+// a flow takes 6 % longer.
 pub(crate) fn move_amounts(cells: usize, amounts: &mut [i64; AMOUNTS], left: &[i64; AMOUNTS])
     requires cells_in_bounds { (1 ≤ cells) × (cells ≤ most_cells) }
     requires amounts_within { AmountsWithin most_net amounts.old × AmountsWithin most_net left.now }
