@@ -120,7 +120,8 @@ fn level_pairs(level: u32) -> [[u8; 2]; Page::LEVEL_COLUMNS / 2]
     [*b"  ", first, second, [b'.', tenth], pair(rest % 100)]
 }
 
-// The levels of a row over their columns.
+// The levels of a row over their columns. Here and in `write_rows` blocks are cut out by their place: a function with a
+// closure for such loops would be public, and ask that the closure may be called.
 fn write_levels(text: &mut [u8], levels: &[u32; Page::LEVELS])
     requires { (length text.old ≡ 6 * level_columns) × LevelsWithin levels.now }
     ensures { text.new ≡ levels_text levels.now 6 }

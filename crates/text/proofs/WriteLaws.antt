@@ -52,16 +52,13 @@ grow l l₁ at n m xs ys e em h el =
     (behind (take at l ++ xs) (drop (at + length xs) l) ys m long
     ∙ simp (append_assoc, drop-drop, length-append, add_assoc))
 
--- Stores side by side are a write; one store, and two.
+-- Stores side by side are a write; and one store.
 pub sets_put : (l : List ℕ) (at : ℕ) (xs : List ℕ) → at + length xs ≤ length l → sets l at xs ≡ put l at xs
 unfolding put
 sets_put l at xs h = sets-eq xs l at h ∙ append_assoc (take at l) xs (drop (at + length xs) l)
 
 pub set-put : (l : List ℕ) (at b : ℕ) → at < length l → set l at b ≡ put l at (b ∷ [])
 set-put l at b h = sets_put l at (b ∷ []) (omega arith)
-
-pub two_stored : (l : List ℕ) (at a b : ℕ) → at + 2 ≤ length l → set (set l at a) (at + 1) b ≡ put l at (a ∷ b ∷ [])
-two_stored l at a b h = rw (add-one at) (sets_put l at (a ∷ b ∷ []) h)
 
 -- A store behind a write.
 pub store : (l l₁ : List ℕ) (at n m b : ℕ) (xs : List ℕ) → length xs ≡ n → m ≡ at + n → at + n < length l
