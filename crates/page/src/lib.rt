@@ -40,12 +40,10 @@ pub fn write_page(river: River, output: &mut [u8]) -> Result<(), Refusal>
     ensures answer { result ≡ answer_of (page_number river (length output.old)) tt }
     ensures output { output.new ≡ page_after (number_of result) river output.old }
 {
-    if !river.fits() {
-        return Err(Refusal::River);
-    }
+    let checked = river.checked()?;
     if output.len() < river.cells as usize * Page::ROW_BYTES {
         return Err(Refusal::Page);
     }
-    write_rows(output, &river);
+    write_rows(output, &checked);
     Ok(())
 }

@@ -1,15 +1,14 @@
 // Rows written into lent bytes, cell by cell.
-ghost use Rattle.std.specs.Prelude.{◌≡◌, ◌*◌, ◌/◌, ◌≤◌, ◌<◌, false, nat_abs, length};
+ghost use Rattle.std.specs.Prelude.{◌≡◌, ◌*◌, ◌/◌, ◌≤◌, ◌<◌, nat_abs, length};
 ghost use Rattle.stoichiometry.specs.Substances.{substances};
 ghost use Rattle.stoichiometry.specs.Levels.{in_microgram, most_level};
 ghost use Rattle.stoichiometry.specs.Totals.{amount_at};
-ghost use Rattle.river.specs.Rivers.{river_wrong};
 ghost use Rattle.text.specs.Writes.{put};
 ghost use Rattle.page.specs.Pages.{level_columns, row_bytes, grams, row, levels_at, row_of, page_of};
 ghost use Rattle.page.specs.Inner.Stages.{levels_text, pair_of, justified_of, whole_of, CellFits, LevelsWithin};
 
 use crate::Page;
-use river::{AMOUNTS, River, letter_by};
+use river::{AMOUNTS, Checked, letter_by};
 use stoichiometry::{Microgram, SUBSTANCES, place};
 
 // Where NH4 and O2, by which the letter goes, stand among the levels of a row.
@@ -162,11 +161,11 @@ fn write_cell(text: &mut [u8], cell: &Cell)
 }
 
 // The rows of a river's cells.
-pub(crate) fn write_rows(out: &mut [u8], river: &River)
-    requires river { river_wrong river.now ≡ false }
-    requires room { river.now.cells * row_bytes ≤ length out.old }
-    ensures { out.new ≡ put out.old 0 (page_of river.now) }
+pub(crate) fn write_rows(out: &mut [u8], checked: &Checked)
+    requires { checked.now.river.now.cells * row_bytes ≤ length out.old }
+    ensures { out.new ≡ put out.old 0 (page_of checked.now.river.now) }
 {
+    let river = checked.river;
     for c in 0..river.cells as usize {
         let at = c * Page::ROW_BYTES;
         let cell = Cell {

@@ -42,14 +42,12 @@ pub fn write_record(river: River, output: &mut [u8], work: &mut [u8]) -> Result<
     ensures output { output.new ≡ output_after (number_of result) river output.old }
     ensures work { work.new ≡ work_after (number_of result) river work.old }
 {
-    if !river.fits() {
-        return Err(Refusal::River);
-    }
+    let checked = river.checked()?;
     let bytes = river.cells as usize * Record::CELL_BYTES;
     if output.len().min(work.len()) < bytes {
         return Err(Refusal::Space);
     }
-    write_cells(output, &river);
+    write_cells(output, &checked);
     copy_bytes(output, bytes, work);
     Ok(())
 }

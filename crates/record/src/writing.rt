@@ -1,11 +1,12 @@
 // Lines written into lent bytes, cell by cell.
-ghost use Rattle.std.specs.Prelude.{◌≡◌, ◌*◌, ◌≤◌, ◌<◌, false, length};
-ghost use Rattle.river.specs.Rivers.{most_cells, river_wrong};
-ghost use Rattle.record.specs.Lines.{cell_text, value_of, lines, line_bytes, cell_bytes};
-ghost use Rattle.record.specs.Inner.Stages.{Labels, labelled, cells_put};
+ghost use Rattle.std.specs.Prelude.{◌≡◌, ◌*◌, ◌≤◌, ◌<◌, length};
+ghost use Rattle.river.specs.Rivers.{most_cells};
+ghost use Rattle.text.specs.Writes.{put};
+ghost use Rattle.record.specs.Lines.{cell_text, value_of, record_of, lines, line_bytes, cell_bytes};
+ghost use Rattle.record.specs.Inner.Stages.{Labels, labelled};
 
 use crate::Record;
-use river::River;
+use river::{Checked, River};
 use stoichiometry::{PROCESSES, SUBSTANCES};
 use text::{two_columns, write_value};
 
@@ -61,11 +62,11 @@ fn write_cell(text: &mut [u8], river: &River, c: usize, labels: &Labels)
 }
 
 // The lines of a river's cells.
-pub(crate) fn write_cells(out: &mut [u8], river: &River)
-    requires river { river_wrong river.now ≡ false }
-    requires room { river.now.cells * cell_bytes ≤ length out.old }
-    ensures { out.new ≡ cells_put out.old river.now.amounts river.now.carries river.now.cells }
+pub(crate) fn write_cells(out: &mut [u8], checked: &Checked)
+    requires { checked.now.river.now.cells * cell_bytes ≤ length out.old }
+    ensures { out.new ≡ put out.old 0 (record_of checked.now.river.now) }
 {
+    let river = checked.river;
     let labels = line_labels();
     for c in 0..river.cells as usize {
         let at = c * Record::CELL_BYTES;

@@ -1,3 +1,4 @@
 pub mod Rivers
 pub mod Cells
+pub mod Checked
 pub mod Inner

@@ -3,6 +3,7 @@
 
 ghost use Rattle.std.specs.Prelude.{◌≡◌};
 ghost use Rattle.river.specs.Rivers.{river_fits, fresh_answer};
+ghost use Rattle.river.specs.Checked.{river_of, checked_answer};
 ghost use Rattle.river.specs.Cells.{byte, letter_by, letter_answer};
 
 use crate::carries::carries_fit;
@@ -11,8 +12,10 @@ use stoichiometry::{Microgram, PROCESSES, Refusal, SUBSTANCES, place};
 
 mod amounts;
 mod carries;
+mod checked;
 
 pub use crate::amounts::{amount_fits, amounts_fit};
+pub use crate::checked::Checked;
 
 // The amounts and the carries of all cells.
 pub const AMOUNTS: usize = River::CELLS_MOST * SUBSTANCES;
@@ -70,6 +73,17 @@ impl River {
         in_range(1, River::CELLS_MOST as u32, self.cells)
             && amounts_fit(self.cells, &self.amounts)
             && carries_fit(self.cells, &self.carries)
+    }
+
+    // Check 4 as a call: the river, known to pass it. Refuses with 4.
+    #[tactic(auto, unfolding(crate::specs::Checked::checked_answer, crate::specs::Rivers::river_wrong, numeric::specs::Check::first_holding))]
+    pub fn checked(&self) -> Result<Checked<'_>, Refusal>
+        ensures answer { river_of result ≡ checked_answer self.now }
+    {
+        if !self.fits() {
+            return Err(Refusal::River);
+        }
+        Ok(Checked { river: self })
     }
 }
 

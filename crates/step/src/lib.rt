@@ -25,9 +25,7 @@ pub fn step_river(set: Set, river: River, conditions: Conditions) -> Result<Rive
     ensures answer { result ≡ step_answer set river conditions }
 {
     let rows = rows_of(set)?;
-    if !river.fits() {
-        return Err(Refusal::River);
-    }
+    let checked = river.checked()?;
     if conditions.are_wrong() {
         return Err(Refusal::Conditions);
     }
@@ -40,7 +38,7 @@ pub fn step_river(set: Set, river: River, conditions: Conditions) -> Result<Rive
         set,
         conditions,
         &rows.entries,
-        &river,
+        &checked,
         &mut after.amounts,
         &mut after.carries,
     )?;

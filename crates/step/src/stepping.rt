@@ -13,7 +13,7 @@ use crate::cell::Cell;
 use crate::rates::Rates;
 use crate::split::{batches_fit, split};
 use kinetics::Conditions;
-use river::{AMOUNTS, CARRIES, River};
+use river::{AMOUNTS, CARRIES, Checked, River};
 use rows::batches_of;
 use stoichiometry::{ENTRIES, PROCESSES, Refusal, SUBSTANCES, Set};
 
@@ -57,15 +57,15 @@ pub(crate) fn step_cells(
     set: Set,
     conditions: Conditions,
     entries: &[i64; ENTRIES],
-    river: &River,
+    checked: &Checked,
     amounts: &mut [i64; AMOUNTS],
     rest: &mut [u32; CARRIES],
 ) -> Result<(), Refusal>
-    requires { StepReady set river.now conditions entries.now
+    requires { StepReady set conditions entries.now
         × (amounts.old ≡ zero_amounts) × (rest.old ≡ zero_carries) }
-    ensures batches { result ≡ (if batches_wrong set conditions river.now then Err Batches else Ok tt) }
-    ensures amounts_after { OnOk result (amounts.new ≡ stepped_amounts set conditions river.now) }
-    ensures rest_after { OnOk result (rest.new ≡ stepped_carries set conditions river.now) }
+    ensures batches { result ≡ (if batches_wrong set conditions checked.now.river.now then Err Batches else Ok tt) }
+    ensures amounts_after { OnOk result (amounts.new ≡ stepped_amounts set conditions checked.now.river.now) }
+    ensures rest_after { OnOk result (rest.new ≡ stepped_carries set conditions checked.now.river.now) }
 {
     let rates = Rates {
         set,
@@ -73,6 +73,7 @@ pub(crate) fn step_cells(
         entries,
         sizes: batches_of(set),
     };
+    let river = checked.river;
     let (cells, _) = river.amounts.as_chunks::<SUBSTANCES>();
     let (carries, _) = river.carries.as_chunks::<PROCESSES>();
     let mut after = [[0; SUBSTANCES]; River::CELLS_MOST];

@@ -12,6 +12,10 @@ use Rattle.stoichiometry.specs.declared.HalfSaturations.{HalfSaturations}
 use Rattle.stoichiometry.specs.declared.Set.{Set}
 use Rattle.stoichiometry.specs.Substances.{organics, fractions_of}
 
+-- The fractions of each organic, in the order of `organics`.
+abbrev pub organic_list : Organics → List Fractions
+organic_list f = f.ss ∷ f.si ∷ f.xh ∷ f.xn1 ∷ f.xn2 ∷ f.xalg ∷ f.xs ∷ f.xi ∷ []
+
 -- The five fractions of an organic add to 1,000.
 unfoldable pub adds_up : Fractions → Bool
 adds_up f = eqb (f.carbon + f.hydrogen + f.oxygen + f.nitrogen + f.phosphorus) 1000
@@ -19,6 +23,11 @@ adds_up f = eqb (f.carbon + f.hydrogen + f.oxygen + f.nitrogen + f.phosphorus) 1
 -- Check 1: the fractions of some organic do not.
 unfoldable pub fractions_wrong : Set → Bool
 fractions_wrong set = not (all_of (λ o. adds_up (fractions_of set o)) organics)
+
+-- Mass fractions, thousandths; yields and inert fractions, hundredths; rate constants, thousandths per day;
+-- half-saturations, µg: each list in the order of the fields.
+abbrev pub fraction_list : Fractions → List ℕ
+fraction_list f = f.carbon ∷ f.hydrogen ∷ f.oxygen ∷ f.nitrogen ∷ f.phosphorus ∷ []
 
 abbrev pub yield_list : Yields → List ℕ
 yield_list y = y.aerobic ∷ y.nitrate ∷ y.nitrite ∷ y.xn1 ∷ y.xn2 ∷ y.death ∷ y.hydrolysis ∷ []

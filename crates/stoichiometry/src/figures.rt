@@ -9,14 +9,14 @@ pub(crate) fn published_set(rates: RateConstants, half: HalfSaturations) -> Set
 {
     Set {
         fractions: Organics {
-            ss: Fractions::new(570, 80, 280, 60, 10),
-            si: Fractions::new(610, 70, 280, 30, 10),
-            xh: Fractions::new(520, 80, 250, 120, 30),
-            xn1: Fractions::new(520, 80, 250, 120, 30),
-            xn2: Fractions::new(520, 80, 250, 120, 30),
-            xalg: Fractions::new(360, 70, 500, 60, 10),
-            xs: Fractions::new(570, 80, 280, 60, 10),
-            xi: Fractions::new(610, 70, 280, 30, 10),
+            ss: Fractions::from([570, 80, 280, 60, 10]),
+            si: Fractions::from([610, 70, 280, 30, 10]),
+            xh: Fractions::from([520, 80, 250, 120, 30]),
+            xn1: Fractions::from([520, 80, 250, 120, 30]),
+            xn2: Fractions::from([520, 80, 250, 120, 30]),
+            xalg: Fractions::from([360, 70, 500, 60, 10]),
+            xs: Fractions::from([570, 80, 280, 60, 10]),
+            xi: Fractions::from([610, 70, 280, 30, 10]),
         },
         yields: Yields {
             aerobic: 60,

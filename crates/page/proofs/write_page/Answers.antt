@@ -1,23 +1,26 @@
 -- `write_page` meets its contract: each return is one case of the checks in their order (proofs/Written.antt).
 -- No assumptions.
-use mathlib.Core.Bool.{not}
-use Rattle.std.proofs.Common.{ℕ, refl, sym, ap, ◌∙◌, arith}
-use Rattle.river.proofs.Rivers.{wrong_tested}
+use Rattle.std.proofs.Common.{◌≡◌, Err, ℕ, refl, sym, ap, ◌∙◌, arith}
+use Rattle.std.proofs.lemmas.Result.{err_from_is_err_and}
+use Rattle.stoichiometry.specs.declared.refusals.Refusal.TheVariants.{River}
 use Rattle.stoichiometry.specs.Refusals.{answer_of}
-use Rattle.page.proofs.Written.{river_refused, space_refused, page_accepted, output_stays, page_written}
+use Rattle.river.proofs.CheckedLaws.{river_refused, river_passed}
+use Rattle.page.proofs.Written.{page_refused, space_refused, page_accepted, output_stays, page_written}
 use Rattle.page.proofs.write_page.Goals as goal
 
-pub returns-then-not-fits : goal.returns-then-not-fits
-returns-then-not-fits c =
-    let wrong = wrong_tested c.args.river _ c.fits.ensures.answer ∙ ap not c.if-not-fits.true in
+pub returns-in_err-checked : goal.returns-in_err-checked
+returns-in_err-checked c =
+    let handed = err_from_is_err_and c.from_residual.result c.from_residual.ensures.1 in
+    let wrong = river_refused c.args.river _ c.in_err-checked.ensures.answer in
+    let four : c.from_residual.result ≡ Err River = rw (handed.1, handed.2, wrong.1) refl in
     record {
-      answer = ap (λ (n : ℕ). answer_of n tt) (sym (river_refused c.args.river _ wrong));
-      output = sym (output_stays 4 _ _ refl);
+      answer = four ∙ ap (λ (n : ℕ). answer_of n tt) (sym (page_refused c.args.river _ wrong.0));
+      output = rw four (sym (output_stays 4 _ _ refl));
     }
 
 pub returns-then-output-river : goal.returns-then-output-river
 returns-then-output-river c =
-    let right = wrong_tested c.args.river _ c.fits.ensures.answer ∙ ap not c.if-not-fits.false in
+    let right = (river_passed c.args.river c.in_ok-checked.checked c.in_ok-checked.ensures.answer).0 in
     record {
       answer = ap (λ (n : ℕ). answer_of n tt) (sym (space_refused c.args.river _ right (omega (arith, c.if-output-river.true))));
       output = sym (output_stays 12 _ _ refl);
@@ -25,15 +28,14 @@ returns-then-output-river c =
 
 pub write_rows-requires : goal.write_rows-requires
 write_rows-requires c =
-    record {
-      river = wrong_tested c.args.river _ c.fits.ensures.answer ∙ ap not c.if-not-fits.false;
-      room = omega (arith, c.if-output-river.false);
-    }
+    let same = (river_passed c.args.river c.in_ok-checked.checked c.in_ok-checked.ensures.answer).1 in
+    rw same (omega (arith, c.if-output-river.false))
 
 pub returns : goal.returns
 returns c =
-    let right = wrong_tested c.args.river _ c.fits.ensures.answer ∙ ap not c.if-not-fits.false in
+    let passed = river_passed c.args.river c.in_ok-checked.checked c.in_ok-checked.ensures.answer in
     record {
-      answer = ap (λ (n : ℕ). answer_of n tt) (sym (page_accepted c.args.river _ right (omega (arith, c.if-output-river.false))));
-      output = c.write_rows.ensures ∙ sym (page_written c.args.river c.args.output.now);
+      answer =
+          ap (λ (n : ℕ). answer_of n tt) (sym (page_accepted c.args.river _ passed.0 (omega (arith, c.if-output-river.false))));
+      output = c.write_rows.ensures ∙ rw passed.1 (sym (page_written c.args.river c.args.output.now));
     }

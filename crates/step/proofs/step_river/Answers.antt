@@ -1,11 +1,11 @@
 -- `step_river` meets its contract: each test is a check of the definition, in its order (proofs/StepNumber.antt).
 -- No assumptions.
-use Rattle.std.proofs.Common.{true, false, refl, sym}
+use Rattle.std.proofs.Common.{refl, sym}
 use Rattle.std.proofs.lemmas.Result.{err_from_is_err_and}
 use Rattle.stoichiometry.proofs.SetNumber.{accepted-passes}
-use Rattle.river.proofs.Rivers.{wrong_tested}
+use Rattle.river.proofs.CheckedLaws.{river_refused, river_passed}
 use Rattle.kinetics.proofs.ConditionLaws.{conditions_fit}
-use Rattle.step.proofs.StepNumber.{Passed, rows_known, rows_unknown, seven_holds, seven_passed, set_refused, river_refused}
+use Rattle.step.proofs.StepNumber.{Passed, rows_known, rows_unknown, seven_holds, seven_passed, set_refused, wrong_refused}
 use Rattle.step.proofs.StepNumber.{conditions_refused, batches_refused, amounts_refused, step-accepted}
 use Rattle.step.proofs.step_river.Goals as goal
 use Rattle.step.proofs.step_river.Goals.{Else-are_wrong}
@@ -19,19 +19,20 @@ returns-in_err-rows c =
     record { answer = rw (handed.1, handed.2, known.1) (sym (set_refused a.set a.river a.conditions known.0)) }
 
 -- Refused by the river.
-pub returns-then-not-fits : goal.returns-then-not-fits
-returns-then-not-fits c =
+pub returns-in_err-checked : goal.returns-in_err-checked
+returns-in_err-checked c =
     let a = c.args in
     let accepted = (rows_known a.set _ c.in_ok-rows.ensures.answer).0 in
-    let wrong = wrong_tested a.river false c.if-not-fits.ensures.answer in
-    record { answer = sym (river_refused a.set a.river a.conditions accepted wrong) }
+    let handed = err_from_is_err_and c.from_residual-in_err-checked.result c.from_residual-in_err-checked.ensures.1 in
+    let wrong = river_refused a.river _ c.in_err-checked.ensures.answer in
+    record { answer = rw (handed.1, handed.2, wrong.1) (sym (wrong_refused a.set a.river a.conditions accepted wrong.0)) }
 
 -- Refused by the conditions.
 pub returns-then-are_wrong : goal.returns-then-are_wrong
 returns-then-are_wrong c =
     let a = c.args in
     let accepted = (rows_known a.set _ c.in_ok-rows.ensures.answer).0 in
-    let right = wrong_tested a.river true c.if-not-fits.ensures.answer in
+    let right = (river_passed a.river c.in_ok-checked.checked c.in_ok-checked.ensures.answer).0 in
     let wrong = sym c.if-are_wrong.ensures.answer in
     record { answer = sym (conditions_refused a.set a.river a.conditions accepted right wrong) }
 
@@ -40,7 +41,7 @@ passed : (c : Else-are_wrong) → Passed c.args.set c.args.river c.args.conditio
 passed c =
     record {
       accepted = (rows_known c.args.set _ c.in_ok-rows.ensures.answer).0;
-      four = wrong_tested c.args.river true c.if-not-fits.ensures.answer;
+      four = (river_passed c.args.river c.in_ok-checked.checked c.in_ok-checked.ensures.answer).0;
       six = sym c.if-are_wrong.ensures.answer;
     }
 
@@ -55,7 +56,6 @@ step_cells-requires c =
               ranges = conditions_fit c.args.conditions p.six;
               rows = (rows_known c.args.set _ rows.answer).1;
             };
-        river = p.four;
         fit = record { bounded = rows.bounded; zeros = rows.zeros };
       },
       refl,
@@ -67,15 +67,17 @@ pub returns-in_err-step_cells : goal.returns-in_err-step_cells
 returns-in_err-step_cells c =
     let a = c.args in
     let handed = err_from_is_err_and c.from_residual-in_err-step_cells.result c.from_residual-in_err-step_cells.ensures.1 in
-    let known = seven_holds _ _ c.in_err-step_cells.ensures.batches in
+    let same = (river_passed a.river c.in_ok-checked.checked c.in_ok-checked.ensures.answer).1 in
+    let known = seven_holds _ _ (rw same at c.in_err-step_cells.ensures.batches) in
     record { answer = rw (handed.1, handed.2, known.1) (sym (batches_refused a.set a.river a.conditions (passed (search)) known.0)) }
 
 -- Refused by the amounts after.
 pub returns-then-not-amounts_fit : goal.returns-then-not-amounts_fit
 returns-then-not-amounts_fit c =
     let a = c.args in
-    let few = seven_passed _ c.in_ok-step_cells.ensures.batches in
-    let amounts = c.in_ok-step_cells.ensures.amounts_after in
+    let same = (river_passed a.river c.in_ok-checked.checked c.in_ok-checked.ensures.answer).1 in
+    let few = seven_passed _ (rw same at c.in_ok-step_cells.ensures.batches) in
+    let amounts = rw same at c.in_ok-step_cells.ensures.amounts_after in
     let wrong = rw amounts at (sym c.if-not-amounts_fit.ensures.answer) in
     record { answer = sym (amounts_refused a.set a.river a.conditions (passed (search)) few wrong) }
 
@@ -83,8 +85,9 @@ returns-then-not-amounts_fit c =
 pub returns : goal.returns
 returns c =
     let a = c.args in
-    let few = seven_passed _ c.in_ok-step_cells.ensures.batches in
-    let amounts = c.in_ok-step_cells.ensures.amounts_after in
-    let carries = c.in_ok-step_cells.ensures.rest_after in
+    let same = (river_passed a.river c.in_ok-checked.checked c.in_ok-checked.ensures.answer).1 in
+    let few = seven_passed _ (rw same at c.in_ok-step_cells.ensures.batches) in
+    let amounts = rw same at c.in_ok-step_cells.ensures.amounts_after in
+    let carries = rw same at c.in_ok-step_cells.ensures.rest_after in
     let right = rw amounts at (sym c.if-not-amounts_fit.ensures.answer) in
     record { answer = rw (amounts, carries) (sym (step-accepted a.set a.river a.conditions (passed (search)) few right)) }

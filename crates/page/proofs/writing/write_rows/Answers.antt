@@ -15,14 +15,14 @@ loop-c-init c = sym (put-none _ _)
 pub loop-c-preserved : goal.loop-c-preserved
 loop-c-preserved c =
     let n = c.loop-c.c in
-    let each = row_of-length c.args.river.now.amounts in
+    let each = row_of-length c.args.checked.now.river.now.amounts in
     let written = mid_written c.loop-c.out _ _ (n * row_bytes) _ row_bytes (each n) (omega arith) c.write_cell.ensures in
     let room : n * row_bytes + row_bytes ≤ length c.args.out.now = omega arith in
     blocks_turn row_bytes _ each c.args.out.now c.loop-c.out _ 0 (n * row_bytes) n (omega arith) (omega arith)
     c.loop-c.invariant written
 
 pub invariant_of-cell : goal.invariant_of-cell
-invariant_of-cell c = record { fits = cell_fits_lem c.args.river.now c.requires.river c.loop-c.c c.loop-c-test.true }
+invariant_of-cell c = record { fits = cell_fits_lem c.args.checked.now.river.now c.args.checked.now.right c.loop-c.c c.loop-c-test.true }
 
 pub write_cell-requires : goal.write_cell-requires
 write_cell-requires c =
@@ -33,6 +33,6 @@ write_cell-requires c =
 pub returns : goal.returns
 unfolding page_of
 returns c =
-    let all : c.loop-c.c ≡ c.args.river.now.cells = omega arith in
+    let all : c.loop-c.c ≡ c.args.checked.now.river.now.cells = omega arith in
     c.loop-c.invariant
-    ∙ ap (λ (n : ℕ). put c.args.out.now 0 (blocks n (row_of c.args.river.now.amounts))) all
+    ∙ ap (λ (n : ℕ). put c.args.out.now 0 (blocks n (row_of c.args.checked.now.river.now.amounts))) all

@@ -6,4 +6,4 @@ use Rattle.page.specs.Pages.{row_of}
 use Rattle.page.proofs.writing.write_rows.Given as goal
 
 abbrev pub invariant-loop-c : goal.invariant-loop-c
-invariant-loop-c l = l.out ≡ put l.fn.out 0 (blocks l.c (row_of l.river.amounts))
+invariant-loop-c l = l.out ≡ put l.fn.out 0 (blocks l.c (row_of l.checked.river.now.amounts))

@@ -4,4 +4,4 @@ use Rattle.record.specs.Inner.Stages.{cells_put}
 use Rattle.record.proofs.writing.write_cells.Given as goal
 
 abbrev pub invariant-loop-c : goal.invariant-loop-c
-invariant-loop-c l = l.out ≡ cells_put l.fn.out l.river.amounts l.river.carries l.c
+invariant-loop-c l = l.out ≡ cells_put l.fn.out l.checked.river.now.amounts l.checked.river.now.carries l.c

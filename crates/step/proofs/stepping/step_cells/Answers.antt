@@ -21,19 +21,19 @@ loop-c-init c =
 
 pub bounds-cells-c : goal.bounds-cells-c
 bounds-cells-c c =
-    let long : length c.args.river.now.amounts ≡ most_cells * substances = search rules in
-    omega (arith, c.as_chunks.ensures.front_len, long, (river-cells c.args.river.now c.requires.0.river).1)
+    let long : length c.args.checked.now.river.now.amounts ≡ most_cells * substances = search rules in
+    omega (arith, c.as_chunks.ensures.front_len, long, (river-cells c.args.checked.now.river.now c.args.checked.now.right).1)
 
 pub bounds-carries-c : goal.bounds-carries-c
 bounds-carries-c c =
-    let long : length c.args.river.now.carries ≡ most_cells * processes = search rules in
-    omega (arith, c.as_chunks-2.ensures.front_len, long, (river-cells c.args.river.now c.requires.0.river).1)
+    let long : length c.args.checked.now.river.now.carries ≡ most_cells * processes = search rules in
+    omega (arith, c.as_chunks-2.ensures.front_len, long, (river-cells c.args.checked.now.river.now c.args.checked.now.right).1)
 
 pub bounds-after-c : goal.bounds-after-c
-bounds-after-c c = omega (arith, (river-cells c.args.river.now c.requires.0.river).1)
+bounds-after-c c = omega (arith, (river-cells c.args.checked.now.river.now c.args.checked.now.right).1)
 
 pub bounds-left-c : goal.bounds-left-c
-bounds-left-c c = omega (arith, (river-cells c.args.river.now c.requires.0.river).1)
+bounds-left-c c = omega (arith, (river-cells c.args.checked.now.river.now c.args.checked.now.right).1)
 
 pub invariant_of-rates : goal.invariant_of-rates
 invariant_of-rates c =
@@ -47,27 +47,27 @@ invariant_of-rates c =
 
 pub invariant_of-cell : goal.invariant_of-cell
 invariant_of-cell c =
-    let r = c.args.river.now in
+    let r = c.args.checked.now.river.now in
     let long : length r.amounts ≡ most_cells * substances = search rules in
     let longer : length r.carries ≡ most_cells * processes = search rules in
     let cells = rw long at c.as_chunks.ensures.front in
     let kept = rw longer at c.as_chunks-2.ensures.front in
-    record { fits = cell_fits_lem r c.requires.0.river _ _ cells kept c.loop-c.c c.loop-c-test.true }
+    record { fits = cell_fits_lem r c.args.checked.now.right _ _ cells kept c.loop-c.c c.loop-c-test.true }
 
 pub step_cell-requires : goal.step_cell-requires
 step_cell-requires c =
-    let r = c.args.river.now in
+    let r = c.args.checked.now.river.now in
     let long : length r.amounts ≡ most_cells * substances = search rules in
     let longer : length r.carries ≡ most_cells * processes = search rules in
     let cells = rw long at c.as_chunks.ensures.front in
     let kept = rw longer at c.as_chunks-2.ensures.front in
-    carries_fit_lem r c.requires.0.river _ _ cells kept c.loop-c.c c.loop-c-test.true
+    carries_fit_lem r c.args.checked.now.right _ _ cells kept c.loop-c.c c.loop-c-test.true
 
 -- The cell does not pass check 7.
 pub returns-in_err-step_cell-clause-batches : goal.returns-in_err-step_cell-clause-batches
 returns-in_err-step_cell-clause-batches c =
     let a = c.args in
-    let r = a.river.now in
+    let r = a.checked.now.river.now in
     let n = c.loop-c.c in
     let long : length r.amounts ≡ most_cells * substances = search rules in
     let longer : length r.carries ≡ most_cells * processes = search rules in
@@ -75,15 +75,15 @@ returns-in_err-step_cell-clause-batches c =
     let kept = rw longer at c.as_chunks-2.ensures.front in
     let handed = err_from_is_err_and c.from_residual.result c.from_residual.ensures.1 in
     let known = few_refused _ _ c.in_err-step_cell.ensures.batches in
-    let same = few_at r c.requires.0.river _ _ cells kept n c.loop-c-test.true a.set a.conditions in
+    let same = few_at r c.args.checked.now.right _ _ cells kept n c.loop-c-test.true a.set a.conditions in
     let wrong = one_many a.set a.conditions r n c.loop-c-test.true (sym same ∙ known.0) in
     rw (handed.1, handed.2, known.1, wrong) refl
 
 pub loop-c-preserved : goal.loop-c-preserved
 loop-c-preserved c =
     let a = c.args in
-    let r = a.river.now in
-    let right = c.requires.0.river in
+    let r = a.checked.now.river.now in
+    let right = c.args.checked.now.right in
     let n = c.loop-c.c in
     let h = c.loop-c-test.true in
     let inv = c.loop-c.invariant in
@@ -108,17 +108,17 @@ loop-c-preserved c =
 pub returns-clause-batches : goal.returns-clause-batches
 returns-clause-batches c =
     let a = c.args in
-    let finished : c.loop-c.c ≡ a.river.now.cells = omega arith in
-    rw (all_few a.set a.conditions a.river.now (rw finished at c.loop-c.invariant.passed)) refl
+    let finished : c.loop-c.c ≡ a.checked.now.river.now.cells = omega arith in
+    rw (all_few a.set a.conditions a.checked.now.river.now (rw finished at c.loop-c.invariant.passed)) refl
 
 pub returns-clause-amounts_after : goal.returns-clause-amounts_after
 unfolding stepped_amounts
 returns-clause-amounts_after c =
     c.copy_from_slice.ensures.after ∙ c.as_flattened.ensures.value
-    ∙ made_done substances c.args.river.now.cells (pos 0) _ c.loop-c.c _ (omega arith) c.loop-c.invariant.stepped
+    ∙ made_done substances c.args.checked.now.river.now.cells (pos 0) _ c.loop-c.c _ (omega arith) c.loop-c.invariant.stepped
 
 pub returns-clause-rest_after : goal.returns-clause-rest_after
 unfolding stepped_carries
 returns-clause-rest_after c =
     c.copy_from_slice-2.ensures.after ∙ c.as_flattened-2.ensures.value
-    ∙ made_done processes c.args.river.now.cells 0 _ c.loop-c.c _ (omega arith) c.loop-c.invariant.kept
+    ∙ made_done processes c.args.checked.now.river.now.cells 0 _ c.loop-c.c _ (omega arith) c.loop-c.invariant.kept

@@ -14,11 +14,11 @@ use Rattle.step.proofs.stepping.step_cells.Given as goal
 abbrev pub invariant-loop-c : goal.invariant-loop-c
 invariant-loop-c l =
     record {
-      passed : every l.c (λ c. batches_few l.fn.set l.fn.conditions (amount_at l.river.amounts c) (carry_at l.river.carries c)) ≡ true;
+      passed : every l.c (λ c. batches_few l.fn.set l.fn.conditions (amount_at l.checked.river.now.amounts c) (carry_at l.checked.river.now.carries c)) ≡ true;
       stepped :
-          RowsMade substances l.river.cells (pos 0)
-          (λ c. new_amount l.fn.set l.fn.conditions (amount_at l.river.amounts c) (carry_at l.river.carries c)) l.c l.after;
+          RowsMade substances l.checked.river.now.cells (pos 0)
+          (λ c. new_amount l.fn.set l.fn.conditions (amount_at l.checked.river.now.amounts c) (carry_at l.checked.river.now.carries c)) l.c l.after;
       kept :
-          RowsMade processes l.river.cells 0
-          (λ c. new_carry l.fn.set l.fn.conditions (amount_at l.river.amounts c) (carry_at l.river.carries c)) l.c l.left;
+          RowsMade processes l.checked.river.now.cells 0
+          (λ c. new_carry l.fn.set l.fn.conditions (amount_at l.checked.river.now.amounts c) (carry_at l.checked.river.now.carries c)) l.c l.left;
     }

@@ -1,0 +1,42 @@
+-- What an answer of check 4 tells of the river (specs/Checked.antt). No assumptions.
+use mathlib.Core.Bool.{Bool, true, false}
+use mathlib.Core.List.{[], ◌∷◌}
+use mathlib.Core.Path.{◌≡◌, refl, sym, ap}
+use Rattle.std.specs.Prelude.{Result, Ok, Err, is_ok}
+use Rattle.std.specs.Result.{result_unwrap_or}
+use Rattle.std.proofs.lemmas.Bool.{true≢false, false≢true}
+use Rattle.numeric.specs.Check.{first_holding, ◌when◌}
+use Rattle.stoichiometry.specs.Refusals.{answer_of}
+use Rattle.stoichiometry.specs.declared.refusals.Refusal.{Refusal}
+use Rattle.stoichiometry.specs.declared.refusals.Refusal.TheVariants.{River as RiverWrong}
+use Rattle.stoichiometry.proofs.RefusalLaws.{refusal_in}
+use Rattle.river.specs.declared.River.{River}
+use Rattle.river.specs.declared.checked.Checked.{Checked}
+use Rattle.river.specs.Rivers.{river_wrong}
+use Rattle.river.specs.Checked.{checked_answer, river_of}
+
+-- By whether check 4 holds.
+module _ (r : River) where
+  by_test : Bool → Result River Refusal
+  by_test wrong = answer_of (first_holding (4 when wrong ∷ [])) r
+
+  wrong_refused : (wrong : Bool) (refusal : Refusal) → Err refusal ≡ by_test wrong → (wrong ≡ true) × (refusal ≡ RiverWrong)
+  unfolding by_test first_holding
+  wrong_refused true refusal e = (refl, ap (refusal_in refusal) e)
+  wrong_refused false refusal e = absurd (false≢true (ap is_ok e))
+
+  right_passed : (wrong : Bool) (of : River) → Ok of ≡ by_test wrong → (wrong ≡ false) × (of ≡ r)
+  unfolding by_test first_holding
+  right_passed true of e = absurd (true≢false (ap is_ok e))
+  right_passed false of e = (refl, ap (λ answer. result_unwrap_or answer r) e)
+
+  -- A refused river is wrong, and the refusal is 4.
+  pub river_refused : (refusal : Refusal) → Err refusal ≡ checked_answer r → (river_wrong r ≡ true) × (refusal ≡ RiverWrong)
+  unfolding checked_answer by_test
+  river_refused = wrong_refused (river_wrong r)
+
+  -- A river that passes is not, and is the one that was given.
+  pub river_passed : (checked : Checked) → Ok checked.river.now ≡ checked_answer r
+      → (river_wrong r ≡ false) × (checked.river.now ≡ r)
+  unfolding checked_answer by_test
+  river_passed checked = right_passed (river_wrong r) checked.river.now

@@ -1,0 +1,17 @@
+-- Check 4 as a call (scope, "Numbers a caller may get"). No assumptions.
+use Rattle.std.specs.Prelude.{[], ◌∷◌, Result, Ok, Err}
+use Rattle.numeric.specs.Check.{first_holding, ◌when◌}
+use Rattle.stoichiometry.specs.declared.refusals.Refusal.{Refusal}
+use Rattle.stoichiometry.specs.Refusals.{answer_of}
+use Rattle.river.specs.declared.River.{River}
+use Rattle.river.specs.declared.checked.Checked.{Checked}
+use Rattle.river.specs.Rivers.{river_wrong}
+
+-- The river where check 4 passes it, else 4.
+unfoldable pub checked_answer : River → Result River Refusal
+checked_answer r = answer_of (first_holding (4 when river_wrong r ∷ [])) r
+
+-- The river of an answer that has one.
+abbrev pub river_of : Result Checked Refusal → Result River Refusal
+river_of (Ok checked) = Ok checked.river.now
+river_of (Err refusal) = Err refusal
