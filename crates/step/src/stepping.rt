@@ -6,7 +6,7 @@ ghost use Rattle.stoichiometry.specs.Rows.{processes};
 ghost use Rattle.stoichiometry.specs.Substances.{substances};
 ghost use Rattle.step.specs.Steps.{batches_wrong, new_amount, new_carry, stepped_amounts, stepped_carries};
 ghost use Rattle.step.specs.Inner.Rating.{amount_in, carry_in};
-ghost use Rattle.step.specs.Inner.Stepping.{CarriesFit, StepReady, batches_few, zero_amounts, zero_carries};
+ghost use Rattle.step.specs.Inner.Stepping.{CarriesFit, StepReady, batches_few};
 
 use crate::apply::Terms;
 use crate::cell::Cell;
@@ -61,8 +61,7 @@ pub(crate) fn step_cells(
     amounts: &mut [i64; AMOUNTS],
     rest: &mut [u32; CARRIES],
 ) -> Result<(), Refusal>
-    requires { StepReady set conditions entries.now
-        × (amounts.old ≡ zero_amounts) × (rest.old ≡ zero_carries) }
+    requires { StepReady set conditions entries.now }
     ensures batches { result ≡ (if batches_wrong set conditions checked.now.river.now then Err Batches else Ok tt) }
     ensures amounts_after { OnOk result (amounts.new ≡ stepped_amounts set conditions checked.now.river.now) }
     ensures rest_after { OnOk result (rest.new ≡ stepped_carries set conditions checked.now.river.now) }
