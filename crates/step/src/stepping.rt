@@ -51,8 +51,8 @@ impl Rates<'_> {
 }
 
 // Writes the amounts and the carries after, cell by cell, with zeros beyond the river's last. Where a cell does not pass
-// check 7 it ends there: 7 in any cell comes before 8 in any. The cells' rows are copied out of arrays of their own: of a
-// part of the whole lists that is lent by `as_chunks_mut` nothing would be known after.
+// check 7 it ends there: 7 in any cell comes before 8 in any. The cells' rows are copied out of arrays of their own: of
+// a part of the whole lists that is lent by `as_chunks_mut` nothing would be known after.
 pub(crate) fn step_cells(
     set: Set,
     conditions: Conditions,
