@@ -66,7 +66,8 @@ impl Terms<'_> {
     // Writes the amounts after, SS to N2: each is written out, so that each sum has its terms alone.
     #[tactic(auto, using(crate::proofs::Unchanged::told), unfolding(numeric::specs::Check::every, rows::specs::Changing::digit, rows::specs::Changing::may_change, rows::specs::Changing::stands_at, rows::specs::Changing::changed_by, stoichiometry::specs::Rows::process_at, stoichiometry::specs::Rows::processes_of))]
     pub(crate) fn apply_cell(&self, after: &mut [i64; SUBSTANCES])
-        ensures { after.new ≡ tab substances (new_from self.now.amounts.now self.now.batches.now self.now.entries.now) }
+        ensures { after.new ≡ tab substances
+            (new_from self.now.amounts.now self.now.batches.now self.now.entries.now) }
     {
         self.apply_one(SS, Changing::SS, after);
         self.apply_one(SI, Changing::SI, after);

@@ -20,8 +20,8 @@ fn divided(carry: u32, extent: u64) -> (i64, u32)
     ((carried / BATCH) as i64, (carried % BATCH) as u32)
 }
 
-// Writes the whole batches and the new carries of one cell. Into arrays that are lent: where they are answered, a step
-// takes 1.06 times as many instructions, which copy them.
+// Writes the whole batches and the new carries of one cell. Into arrays that are lent: where they are answered they are
+// copied, and a step takes 1.01 times as many instructions.
 pub(crate) fn split(
     extents: &[u64; PROCESSES],
     carries: &[u32; PROCESSES],

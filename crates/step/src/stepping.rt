@@ -6,7 +6,7 @@ ghost use Rattle.stoichiometry.specs.Rows.{processes};
 ghost use Rattle.stoichiometry.specs.Substances.{substances};
 ghost use Rattle.step.specs.Steps.{batches_wrong, new_amount, new_carry, stepped_amounts, stepped_carries};
 ghost use Rattle.step.specs.Inner.Rating.{amount_in, carry_in};
-ghost use Rattle.step.specs.Inner.Stepping.{CarriesFit, StepReady, batches_few, zero_amounts, zero_carries};
+ghost use Rattle.step.specs.Inner.Stepping.{CarriesFit, StepReady, batches_few};
 
 use crate::apply::Terms;
 use crate::cell::Cell;
@@ -51,8 +51,8 @@ impl Rates<'_> {
 }
 
 // Writes the amounts and the carries after, cell by cell, with zeros beyond the river's last. Where a cell does not pass
-// check 7 it ends there: 7 in any cell comes before 8 in any. The cells' rows are copied out of arrays of their own: of a
-// part of the whole lists that is lent by `as_chunks_mut` nothing would be known after.
+// check 7 it ends there: 7 in any cell comes before 8 in any. The cells' rows are copied out of arrays of their own: of
+// a part of the whole lists that is lent by `as_chunks_mut` nothing would be known after.
 pub(crate) fn step_cells(
     set: Set,
     conditions: Conditions,
@@ -61,19 +61,18 @@ pub(crate) fn step_cells(
     amounts: &mut [i64; AMOUNTS],
     rest: &mut [u32; CARRIES],
 ) -> Result<(), Refusal>
-    requires { StepReady set conditions entries.now
-        × (amounts.old ≡ zero_amounts) × (rest.old ≡ zero_carries) }
+    requires { StepReady set conditions entries.now }
     ensures batches { result ≡ (if batches_wrong set conditions checked.now.river.now then Err Batches else Ok tt) }
     ensures amounts_after { OnOk result (amounts.new ≡ stepped_amounts set conditions checked.now.river.now) }
     ensures rest_after { OnOk result (rest.new ≡ stepped_carries set conditions checked.now.river.now) }
 {
-    let river = checked.river;
     let rates = Rates {
         set,
         conditions,
         entries,
         sizes: batches_of(set),
     };
+    let river = checked.river;
     let (cells, _) = river.amounts.as_chunks::<SUBSTANCES>();
     let (carries, _) = river.carries.as_chunks::<PROCESSES>();
     let mut after = [[0; SUBSTANCES]; River::CELLS_MOST];

@@ -1,6 +1,6 @@
 -- `step_river` meets its contract: each test is a check of the definition, in its order (proofs/StepNumber.antt).
 -- No assumptions.
-use Rattle.std.proofs.Common.{true, false, refl, sym}
+use Rattle.std.proofs.Common.{sym}
 use Rattle.std.proofs.lemmas.Result.{err_from_is_err_and}
 use Rattle.stoichiometry.proofs.SetNumber.{accepted-passes}
 use Rattle.river.proofs.CheckedLaws.{river_refused, river_passed}
@@ -48,19 +48,16 @@ passed c =
 pub step_cells-requires : goal.step_cells-requires
 step_cells-requires c =
     let p = passed (search) in
-    let rows = c.in_ok-rows.ensures in (
-      record {
-        ready =
-            record {
-              figures = (accepted-passes c.args.set p.accepted).1;
-              ranges = conditions_fit c.args.conditions p.six;
-              rows = (rows_known c.args.set _ rows.answer).1;
-            };
-        fit = record { bounded = rows.bounded; zeros = rows.zeros };
-      },
-      refl,
-      refl,
-    )
+    let rows = c.in_ok-rows.ensures in
+    record {
+      ready =
+          record {
+            figures = (accepted-passes c.args.set p.accepted).1;
+            ranges = conditions_fit c.args.conditions p.six;
+            rows = (rows_known c.args.set _ rows.answer).1;
+          };
+      fit = record { bounded = rows.bounded; zeros = rows.zeros };
+    }
 
 -- Refused by the batches.
 pub returns-in_err-step_cells : goal.returns-in_err-step_cells

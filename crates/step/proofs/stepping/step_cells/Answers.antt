@@ -37,11 +37,11 @@ bounds-left-c c = omega (arith, (river-cells c.args.checked.now.river.now c.args
 
 pub invariant_of-rates : goal.invariant_of-rates
 invariant_of-rates c =
-    let ready = c.requires.0.ready in
+    let ready = c.requires.ready in
     record {
       ready = ready;
       halves = halves-fit c.args.set ready.figures;
-      entries_fit = c.requires.0.fit;
+      entries_fit = c.requires.fit;
       sized = c.batches_of.ensures.answer;
     }
 
