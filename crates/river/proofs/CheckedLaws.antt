@@ -1,7 +1,7 @@
 -- What an answer of check 4 tells of the river (specs/Checked.antt). No assumptions.
 use mathlib.Core.Bool.{Bool, true, false}
 use mathlib.Core.List.{[], ◌∷◌}
-use mathlib.Core.Path.{◌≡◌, refl, sym, ap}
+use mathlib.Core.Path.{◌≡◌, refl, ap}
 use Rattle.std.specs.Prelude.{Result, Ok, Err, is_ok}
 use Rattle.std.specs.Result.{result_unwrap_or}
 use Rattle.std.proofs.lemmas.Bool.{true≢false, false≢true}
@@ -13,7 +13,7 @@ use Rattle.stoichiometry.proofs.RefusalLaws.{refusal_in}
 use Rattle.river.specs.declared.River.{River}
 use Rattle.river.specs.declared.checked.Checked.{Checked}
 use Rattle.river.specs.Rivers.{river_wrong}
-use Rattle.river.specs.Checked.{checked_answer, river_of}
+use Rattle.river.specs.Checked.{checked_answer}
 
 -- By whether check 4 holds.
 module _ (r : River) where

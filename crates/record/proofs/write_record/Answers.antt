@@ -7,7 +7,6 @@ use Rattle.stoichiometry.specs.Refusals.{answer_of}
 use Rattle.river.proofs.CheckedLaws.{river_refused, river_passed}
 use Rattle.record.specs.Lines.{cell_bytes, record_of}
 use Rattle.record.specs.Writing.{write_number}
-use Rattle.text.specs.Writes.{put}
 use Rattle.record.proofs.Written.{record_refused, space_refused, write_accepted, output_stays, work_stays}
 use Rattle.record.proofs.Written.{output_written, work_written}
 use Rattle.record.proofs.write_record.Goals as goal

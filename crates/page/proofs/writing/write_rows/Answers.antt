@@ -1,5 +1,5 @@
 -- `write_rows` meets its contract: one row more. No assumptions.
-use Rattle.std.proofs.Common.{◌≡◌, ℕ, ◌+◌, ◌*◌, ◌≤◌, sym, ap, ◌∙◌, arith, length, length-take, length-drop}
+use Rattle.std.proofs.Common.{◌≡◌, ℕ, ◌+◌, ◌*◌, ◌≤◌, ap, ◌∙◌, arith, length, length-take, length-drop}
 use Rattle.text.specs.Blocks.{blocks}
 use Rattle.text.proofs.BlockLaws.{no_block, next_block}
 use Rattle.text.specs.Writes.{put}

@@ -1,5 +1,5 @@
 -- `write_cell` meets its contract: one line more (proofs/Written.antt). No assumptions.
-use Rattle.std.proofs.Common.{◌≡◌, ◌+◌, ◌*◌, ◌≤◌, ℕ, sym, ap, ◌∙◌, arith, length}
+use Rattle.std.proofs.Common.{◌≡◌, ◌+◌, ◌*◌, ◌≤◌, ap, ◌∙◌, arith, length}
 use Rattle.text.proofs.BlockLaws.{no_block, next_block, all_blocks}
 use Rattle.numeric.proofs.Machine.{kept_is}
 use Rattle.record.specs.Lines.{line, cell_text, value_of, lines, line_bytes}

@@ -1,5 +1,5 @@
 -- `write_cells` meets its contract: one cell more. No assumptions.
-use Rattle.std.proofs.Common.{◌≡◌, ℕ, ◌+◌, ◌*◌, ◌≤◌, sym, ap, ◌∙◌, arith, length, length-take, length-drop}
+use Rattle.std.proofs.Common.{◌≡◌, ℕ, ◌+◌, ◌*◌, ◌≤◌, ap, ◌∙◌, arith, length, length-take, length-drop}
 use Rattle.river.specs.declared.River.{River}
 use Rattle.river.proofs.Rivers.{river-cells}
 use Rattle.text.proofs.BlockLaws.{no_block, next_block}
