@@ -51,9 +51,9 @@ row_written l ys cell letter levels long small six e =
 
 -- The number of a write, by the checks.
 module _ (r : River) (output : ℕ) where
-  pub page_refused : river_wrong r ≡ true → page_number r output ≡ 4
+  pub river_refused : river_wrong r ≡ true → page_number r output ≡ 4
   unfolding page_number first_holding
-  page_refused wrong = rw wrong refl
+  river_refused wrong = rw wrong refl
 
   pub space_refused : river_wrong r ≡ false → output < r.cells * row_bytes → page_number r output ≡ 12
   unfolding page_number first_holding

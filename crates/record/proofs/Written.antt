@@ -48,9 +48,9 @@ labelled_line cell k cs ks z e e' = rw (e, e') refl
 
 -- The number of a write, by the checks.
 module _ (r : River) (output work : ℕ) where
-  pub record_refused : river_wrong r ≡ true → write_number r output work ≡ 4
+  pub river_refused : river_wrong r ≡ true → write_number r output work ≡ 4
   unfolding write_number first_holding
-  record_refused wrong = rw wrong refl
+  river_refused wrong = rw wrong refl
 
   pub output_refused : river_wrong r ≡ false → output < r.cells * cell_bytes → write_number r output work ≡ 10
   unfolding write_number first_holding

@@ -30,13 +30,13 @@ module _ (r : River) where
   right_passed true of e = absurd (true≢false (ap is_ok e))
   right_passed false of e = (refl, ap (λ answer. result_unwrap_or answer r) e)
 
-  -- A refused river is wrong, and the refusal is 4.
-  pub river_refused : (refusal : Refusal) → Err refusal ≡ checked_answer r → (river_wrong r ≡ true) × (refusal ≡ RiverWrong)
+  -- Check 4 holds of a refused river, and the refusal is 4.
+  pub four_holds : (refusal : Refusal) → Err refusal ≡ checked_answer r → (river_wrong r ≡ true) × (refusal ≡ RiverWrong)
   unfolding checked_answer by_test
-  river_refused = wrong_refused (river_wrong r)
+  four_holds = wrong_refused (river_wrong r)
 
-  -- A river that passes is not, and is the one that was given.
-  pub river_passed : (checked : Checked) → Ok checked.river.now ≡ checked_answer r
+  -- It does not hold of a river that passes, and that is the one that was given.
+  pub four_passed : (checked : Checked) → Ok checked.river.now ≡ checked_answer r
       → (river_wrong r ≡ false) × (checked.river.now ≡ r)
   unfolding checked_answer by_test
-  river_passed checked = right_passed (river_wrong r) checked.river.now
+  four_passed checked = right_passed (river_wrong r) checked.river.now

@@ -4,23 +4,23 @@ use Rattle.std.proofs.Common.{◌≡◌, Err, ℕ, refl, sym, ap, ◌∙◌, ari
 use Rattle.std.proofs.lemmas.Result.{err_from_is_err_and}
 use Rattle.stoichiometry.specs.declared.refusals.Refusal.TheVariants.{River}
 use Rattle.stoichiometry.specs.Refusals.{answer_of}
-use Rattle.river.proofs.CheckedLaws.{river_refused, river_passed}
-use Rattle.page.proofs.Written.{page_refused, space_refused, page_accepted, output_stays, page_written}
+use Rattle.river.proofs.CheckedLaws.{four_holds, four_passed}
+use Rattle.page.proofs.Written.{river_refused, space_refused, page_accepted, output_stays, page_written}
 use Rattle.page.proofs.write_page.Goals as goal
 
 pub returns-in_err-checked : goal.returns-in_err-checked
 returns-in_err-checked c =
     let handed = err_from_is_err_and c.from_residual.result c.from_residual.ensures.1 in
-    let wrong = river_refused c.args.river _ c.in_err-checked.ensures.answer in
+    let wrong = four_holds c.args.river _ c.in_err-checked.ensures.answer in
     let four : c.from_residual.result ≡ Err River = rw (handed.1, handed.2, wrong.1) refl in
     record {
-      answer = four ∙ ap (λ (n : ℕ). answer_of n tt) (sym (page_refused c.args.river _ wrong.0));
+      answer = four ∙ ap (λ (n : ℕ). answer_of n tt) (sym (river_refused c.args.river _ wrong.0));
       output = rw four (sym (output_stays 4 _ _ refl));
     }
 
 pub returns-then-output-river : goal.returns-then-output-river
 returns-then-output-river c =
-    let right = (river_passed c.args.river c.in_ok-checked.checked c.in_ok-checked.ensures.answer).0 in
+    let right = (four_passed c.args.river c.in_ok-checked.checked c.in_ok-checked.ensures.answer).0 in
     record {
       answer = ap (λ (n : ℕ). answer_of n tt) (sym (space_refused c.args.river _ right (omega (arith, c.if-output-river.true))));
       output = sym (output_stays 12 _ _ refl);
@@ -28,12 +28,12 @@ returns-then-output-river c =
 
 pub write_rows-requires : goal.write_rows-requires
 write_rows-requires c =
-    let same = (river_passed c.args.river c.in_ok-checked.checked c.in_ok-checked.ensures.answer).1 in
+    let same = (four_passed c.args.river c.in_ok-checked.checked c.in_ok-checked.ensures.answer).1 in
     rw same (omega (arith, c.if-output-river.false))
 
 pub returns : goal.returns
 returns c =
-    let passed = river_passed c.args.river c.in_ok-checked.checked c.in_ok-checked.ensures.answer in
+    let passed = four_passed c.args.river c.in_ok-checked.checked c.in_ok-checked.ensures.answer in
     record {
       answer =
           ap (λ (n : ℕ). answer_of n tt) (sym (page_accepted c.args.river _ passed.0 (omega (arith, c.if-output-river.false))));

@@ -4,27 +4,27 @@ use Rattle.std.proofs.Common.{arith, ◌≡◌, ◌*◌, ◌≤◌, Err, ℕ, re
 use Rattle.std.proofs.lemmas.Result.{err_from_is_err_and}
 use Rattle.stoichiometry.specs.declared.refusals.Refusal.TheVariants.{River}
 use Rattle.stoichiometry.specs.Refusals.{answer_of}
-use Rattle.river.proofs.CheckedLaws.{river_refused, river_passed}
+use Rattle.river.proofs.CheckedLaws.{four_holds, four_passed}
 use Rattle.record.specs.Lines.{cell_bytes, record_of}
 use Rattle.record.specs.Writing.{write_number}
-use Rattle.record.proofs.Written.{record_refused, space_refused, write_accepted, output_stays, work_stays}
+use Rattle.record.proofs.Written.{river_refused, space_refused, write_accepted, output_stays, work_stays}
 use Rattle.record.proofs.Written.{output_written, work_written}
 use Rattle.record.proofs.write_record.Goals as goal
 
 pub returns-in_err-checked : goal.returns-in_err-checked
 returns-in_err-checked c =
     let handed = err_from_is_err_and c.from_residual.result c.from_residual.ensures.1 in
-    let wrong = river_refused c.args.river _ c.in_err-checked.ensures.answer in
+    let wrong = four_holds c.args.river _ c.in_err-checked.ensures.answer in
     let four : c.from_residual.result ≡ Err River = rw (handed.1, handed.2, wrong.1) refl in
     record {
-      answer = four ∙ ap (λ (n : ℕ). answer_of n tt) (sym (record_refused c.args.river _ _ wrong.0));
+      answer = four ∙ ap (λ (n : ℕ). answer_of n tt) (sym (river_refused c.args.river _ _ wrong.0));
       output = rw four (sym (output_stays 4 _ _ refl));
       work = rw four (sym (work_stays 4 _ _ refl));
     }
 
 pub returns-then-min-bytes : goal.returns-then-min-bytes
 returns-then-min-bytes c =
-    let right = (river_passed c.args.river c.in_ok-checked.checked c.in_ok-checked.ensures.answer).0 in
+    let right = (four_passed c.args.river c.in_ok-checked.checked c.in_ok-checked.ensures.answer).0 in
     let ten : write_number c.args.river (length c.args.output.now) (length c.args.work.now) ≡ 10 =
     space_refused _ _ _ right (λ h. omega (arith, c.min.ensures, c.if-min-bytes.true)) in
     record {
@@ -35,14 +35,14 @@ returns-then-min-bytes c =
 
 pub write_cells-requires : goal.write_cells-requires
 write_cells-requires c =
-    let same = (river_passed c.args.river c.in_ok-checked.checked c.in_ok-checked.ensures.answer).1 in
+    let same = (four_passed c.args.river c.in_ok-checked.checked c.in_ok-checked.ensures.answer).1 in
     rw same (omega (arith, c.min.ensures, c.if-min-bytes.false))
 
 pub returns : goal.returns
 unfolding record_of
 returns c =
     let r = c.args.river in
-    let passed = river_passed r c.in_ok-checked.checked c.in_ok-checked.ensures.answer in
+    let passed = four_passed r c.in_ok-checked.checked c.in_ok-checked.ensures.answer in
     let room : r.cells * cell_bytes ≤ length c.args.output.now = omega (arith, c.min.ensures, c.if-min-bytes.false) in
     let space : r.cells * cell_bytes ≤ length c.args.work.now = omega (arith, c.min.ensures, c.if-min-bytes.false) in
     let written = rw passed.1 at c.write_cells.ensures in

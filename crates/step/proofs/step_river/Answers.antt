@@ -3,9 +3,9 @@
 use Rattle.std.proofs.Common.{sym}
 use Rattle.std.proofs.lemmas.Result.{err_from_is_err_and}
 use Rattle.stoichiometry.proofs.SetNumber.{accepted-passes}
-use Rattle.river.proofs.CheckedLaws.{river_refused, river_passed}
+use Rattle.river.proofs.CheckedLaws.{four_holds, four_passed}
 use Rattle.kinetics.proofs.ConditionLaws.{conditions_fit}
-use Rattle.step.proofs.StepNumber.{Passed, rows_known, rows_unknown, seven_holds, seven_passed, set_refused, wrong_refused}
+use Rattle.step.proofs.StepNumber.{Passed, rows_known, rows_unknown, seven_holds, seven_passed, set_refused, river_refused}
 use Rattle.step.proofs.StepNumber.{conditions_refused, batches_refused, amounts_refused, step-accepted}
 use Rattle.step.proofs.step_river.Goals as goal
 use Rattle.step.proofs.step_river.Goals.{Else-are_wrong}
@@ -24,15 +24,15 @@ returns-in_err-checked c =
     let a = c.args in
     let accepted = (rows_known a.set _ c.in_ok-rows.ensures.answer).0 in
     let handed = err_from_is_err_and c.from_residual-in_err-checked.result c.from_residual-in_err-checked.ensures.1 in
-    let wrong = river_refused a.river _ c.in_err-checked.ensures.answer in
-    record { answer = rw (handed.1, handed.2, wrong.1) (sym (wrong_refused a.set a.river a.conditions accepted wrong.0)) }
+    let wrong = four_holds a.river _ c.in_err-checked.ensures.answer in
+    record { answer = rw (handed.1, handed.2, wrong.1) (sym (river_refused a.set a.river a.conditions accepted wrong.0)) }
 
 -- Refused by the conditions.
 pub returns-then-are_wrong : goal.returns-then-are_wrong
 returns-then-are_wrong c =
     let a = c.args in
     let accepted = (rows_known a.set _ c.in_ok-rows.ensures.answer).0 in
-    let right = (river_passed a.river c.in_ok-checked.checked c.in_ok-checked.ensures.answer).0 in
+    let right = (four_passed a.river c.in_ok-checked.checked c.in_ok-checked.ensures.answer).0 in
     let wrong = sym c.if-are_wrong.ensures.answer in
     record { answer = sym (conditions_refused a.set a.river a.conditions accepted right wrong) }
 
@@ -41,7 +41,7 @@ passed : (c : Else-are_wrong) → Passed c.args.set c.args.river c.args.conditio
 passed c =
     record {
       accepted = (rows_known c.args.set _ c.in_ok-rows.ensures.answer).0;
-      four = (river_passed c.args.river c.in_ok-checked.checked c.in_ok-checked.ensures.answer).0;
+      four = (four_passed c.args.river c.in_ok-checked.checked c.in_ok-checked.ensures.answer).0;
       six = sym c.if-are_wrong.ensures.answer;
     }
 
@@ -64,7 +64,7 @@ pub returns-in_err-step_cells : goal.returns-in_err-step_cells
 returns-in_err-step_cells c =
     let a = c.args in
     let handed = err_from_is_err_and c.from_residual-in_err-step_cells.result c.from_residual-in_err-step_cells.ensures.1 in
-    let same = (river_passed a.river c.in_ok-checked.checked c.in_ok-checked.ensures.answer).1 in
+    let same = (four_passed a.river c.in_ok-checked.checked c.in_ok-checked.ensures.answer).1 in
     let known = seven_holds _ _ (rw same at c.in_err-step_cells.ensures.batches) in
     record { answer = rw (handed.1, handed.2, known.1) (sym (batches_refused a.set a.river a.conditions (passed (search)) known.0)) }
 
@@ -72,7 +72,7 @@ returns-in_err-step_cells c =
 pub returns-then-not-amounts_fit : goal.returns-then-not-amounts_fit
 returns-then-not-amounts_fit c =
     let a = c.args in
-    let same = (river_passed a.river c.in_ok-checked.checked c.in_ok-checked.ensures.answer).1 in
+    let same = (four_passed a.river c.in_ok-checked.checked c.in_ok-checked.ensures.answer).1 in
     let few = seven_passed _ (rw same at c.in_ok-step_cells.ensures.batches) in
     let amounts = rw same at c.in_ok-step_cells.ensures.amounts_after in
     let wrong = rw amounts at (sym c.if-not-amounts_fit.ensures.answer) in
@@ -82,7 +82,7 @@ returns-then-not-amounts_fit c =
 pub returns : goal.returns
 returns c =
     let a = c.args in
-    let same = (river_passed a.river c.in_ok-checked.checked c.in_ok-checked.ensures.answer).1 in
+    let same = (four_passed a.river c.in_ok-checked.checked c.in_ok-checked.ensures.answer).1 in
     let few = seven_passed _ (rw same at c.in_ok-step_cells.ensures.batches) in
     let amounts = rw same at c.in_ok-step_cells.ensures.amounts_after in
     let carries = rw same at c.in_ok-step_cells.ensures.rest_after in
