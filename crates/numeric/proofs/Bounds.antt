@@ -12,6 +12,7 @@ use mir.Syntax.{w64}
 use mir.Val.{SFits}
 use Rattle.numeric.proofs.Difference.{up, dn}
 use Rattle.numeric.proofs.Expression.{v, #, ◌⊕◌, ⊝, at_most, at_most_of, rep}
+use Rattle.std.proofs.lemmas.Int.{unsigned_abs-mul}
 
 pub abs_parts : (z : ℤ) → nat_abs z ≡ up z + dn z
 abs_parts (pos n) = omega arith
@@ -39,12 +40,6 @@ abs_neg (pos zero) = refl
 abs_neg (pos (suc n)) = refl
 abs_neg (negsuc n) = refl
 
-pub abs_mul : (a b : ℤ) → nat_abs (a *ℤ b) ≡ nat_abs a * nat_abs b
-abs_mul (pos a) (pos b) = refl
-abs_mul (pos a) (negsuc b) = abs_neg (pos (a * suc b))
-abs_mul (negsuc a) (pos b) = abs_neg (pos (suc a * b))
-abs_mul (negsuc a) (negsuc b) = refl
-
 pub abs_add : (a b : ℤ) → nat_abs (a +ℤ b) ≤ nat_abs a + nat_abs b
 abs_add a b = least (a +ℤ b) (up a + up b) (dn a + dn b) (omega (arith, (rep (a ∷ b ∷ []) (v 0 ⊕ v 1)).is)) (omega (arith, abs_parts a, abs_parts b))
   where
@@ -57,7 +52,7 @@ abs_sub a b = omega (arith, abs_add a (neg_ℤ b), abs_neg b)
 
 -- A product under bounds.
 pub abs_mul_le : (a b : ℤ) {x y : ℕ} → nat_abs a ≤ x → nat_abs b ≤ y → nat_abs (a *ℤ b) ≤ x * y
-abs_mul_le a b h k = rw abs_mul (mul-le-mul h k)
+abs_mul_le a b h k = rw unsigned_abs-mul (mul-le-mul h k)
 
 -- An element of a list made of l, under a bound that is so made.
 pub abs_at : {A : Type 0} (l : List A) (f : A → ℤ) (b : A → ℕ) (k : ℕ) → ((a : A) → nat_abs (f a) ≤ b a)

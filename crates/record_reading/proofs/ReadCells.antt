@@ -22,7 +22,7 @@ use Rattle.stoichiometry.specs.Substances.{substances, most_net}
 use Rattle.river.specs.Rivers.{most_carry}
 use Rattle.std.specs.Simd.{first_chunks}
 use Rattle.text.specs.Blocks.{part}
-use Rattle.text.proofs.BlockLaws.{chunk-part}
+use Rattle.numeric.proofs.ChunkLaws.{chunk_is}
 use Rattle.record.specs.Lines.{lines, line_bytes, cell_bytes}
 use Rattle.record_reading.specs.Reading.{line_value, lowest_on, highest_on, value_at, number_at, cell_right}
 use Rattle.record_reading.specs.Inner.Stages.{value_in, number_in, cell_found}
@@ -58,11 +58,11 @@ module _ (t u : List ℕ) (c : ℕ) (e : u ≡ part (c * cell_bytes) cell_bytes 
 -- A line of a cell's text, as the loop cuts it out, and the text of a cell.
 pub line_is : (t : List ℕ) (cut : List (List ℕ)) (k : ℕ) → cut ≡ first_chunks line_bytes (length t / line_bytes) t
     → length t ≡ cell_bytes → k < lines → get_or cut k [] ≡ part (k * line_bytes) line_bytes t
-line_is t cut k e long h = rw e (chunk-part line_bytes (length t / line_bytes) t k (omega arith))
+line_is t cut k e long h = rw e (chunk_is line_bytes (length t / line_bytes) t k (omega arith))
 
 pub cell_is : (t : List ℕ) (cut : List (List ℕ)) (c : ℕ) → cut ≡ first_chunks cell_bytes (length t / cell_bytes) t
     → c < length t / cell_bytes → get_or cut c [] ≡ part (c * cell_bytes) cell_bytes t
-cell_is t cut c e h = rw e (chunk-part cell_bytes (length t / cell_bytes) t c h)
+cell_is t cut c e h = rw e (chunk_is cell_bytes (length t / cell_bytes) t c h)
 
 -- The lines of a cell's text.
 module _ (t : List ℕ) (c k : ℕ) where

@@ -1,42 +1,39 @@
 -- What an answer of check 4 tells of the river (specs/Checked.antt). No assumptions.
 use mathlib.Core.Bool.{Bool, true, false}
 use mathlib.Core.List.{[], ◌∷◌}
-use mathlib.Core.Path.{◌≡◌, refl, ap}
-use Rattle.std.specs.Prelude.{Result, Ok, Err, is_ok}
-use Rattle.std.specs.Result.{result_unwrap_or}
-use Rattle.std.proofs.lemmas.Bool.{true≢false, false≢true}
+use mathlib.Core.Path.{◌≡◌, refl, ◌∙◌}
+use Rattle.std.specs.Prelude.{Result, Ok, Err}
 use Rattle.numeric.specs.Check.{first_holding, ◌when◌}
 use Rattle.stoichiometry.specs.Refusals.{answer_of}
 use Rattle.stoichiometry.specs.declared.refusals.Refusal.{Refusal}
 use Rattle.stoichiometry.specs.declared.refusals.Refusal.TheVariants.{River as RiverWrong}
-use Rattle.stoichiometry.proofs.RefusalLaws.{refusal_in}
+use Rattle.stoichiometry.proofs.RefusalLaws.{tested, test_holds, test_passed}
 use Rattle.river.specs.declared.River.{River}
 use Rattle.river.specs.declared.checked.Checked.{Checked}
 use Rattle.river.specs.Rivers.{river_wrong}
 use Rattle.river.specs.Checked.{checked_answer}
 
--- By whether check 4 holds.
 module _ (r : River) where
-  by_test : Bool → Result River Refusal
-  by_test wrong = answer_of (first_holding (4 when wrong ∷ [])) r
-
-  wrong_refused : (wrong : Bool) (refusal : Refusal) → Err refusal ≡ by_test wrong → (wrong ≡ true) × (refusal ≡ RiverWrong)
-  unfolding by_test first_holding
-  wrong_refused true refusal e = (refl, ap (refusal_in refusal) e)
-  wrong_refused false refusal e = absurd (false≢true (ap is_ok e))
-
-  right_passed : (wrong : Bool) (of : River) → Ok of ≡ by_test wrong → (wrong ≡ false) × (of ≡ r)
-  unfolding by_test first_holding
-  right_passed true of e = absurd (true≢false (ap is_ok e))
-  right_passed false of e = (refl, ap (λ answer. result_unwrap_or answer r) e)
+  one_test : (wrong : Bool) → answer_of (first_holding (4 when wrong ∷ [])) r ≡ tested RiverWrong r wrong
+  unfolding first_holding
+  one_test true = refl
+  one_test false = refl
 
   -- Check 4 holds of a refused river, and the refusal is 4.
   pub four_holds : (refusal : Refusal) → Err refusal ≡ checked_answer r → (river_wrong r ≡ true) × (refusal ≡ RiverWrong)
-  unfolding checked_answer by_test
-  four_holds = wrong_refused (river_wrong r)
+  unfolding checked_answer
+  four_holds refusal e = test_holds RiverWrong r (river_wrong r) refusal (e ∙ one_test (river_wrong r))
+
+  -- So a call that hands the refusal on is refused with 4.
+  pub four_handed : {T : Type 0} {result : Result T Refusal} {refusal : Refusal}
+      → (x : Refusal) × (result ≡ Err x) × (x ≡ refusal) → Err refusal ≡ checked_answer r
+      → (result ≡ Err RiverWrong) × (river_wrong r ≡ true)
+  four_handed {refusal = refusal} (x, is, same) e =
+      let held = four_holds refusal e in
+      (rw (is, same, held.1) refl, held.0)
 
   -- It does not hold of a river that passes, and that is the one that was given.
   pub four_passed : (checked : Checked) → Ok checked.river.now ≡ checked_answer r
       → (river_wrong r ≡ false) × (checked.river.now ≡ r)
-  unfolding checked_answer by_test
-  four_passed checked = right_passed (river_wrong r) checked.river.now
+  unfolding checked_answer
+  four_passed checked e = test_passed RiverWrong r (river_wrong r) checked.river.now (e ∙ one_test (river_wrong r))

@@ -8,6 +8,7 @@ use Rattle.std.proofs.lemmas.List.{ext_get_or}
 use Rattle.std.specs.List.{AllWithin, HoldsAt, EachIndex}
 use Rattle.std.specs.Bool.{Decides, MatchBool}
 use Rattle.std.specs.Simd.{first_chunks}
+use Rattle.numeric.proofs.ChunkLaws.{chunk_at}
 use Rattle.numeric.proofs.Filling.{replicate_at}
 use mathlib.Core.Path.{◌≡◌, refl, sym, ap, ap₂, ◌∙◌}
 use native.Mathlib.Decide.{dec_lt}
@@ -82,15 +83,6 @@ all_says p cells false (k, l, fails) =
 -- Cell c of all amounts.
 abbrev pub cell_of : List ℤ → ℕ → List ℤ
 cell_of amounts c = get_or (first_chunks substances most_cells amounts) c []
-
--- A chunk is what stands at its place.
-pub chunk_at : {A : Type 0} (w n : ℕ) (xs : List A) (c s : ℕ) (d : A) → c < n → s < w
-    → get_or (get_or (first_chunks w n xs) c []) s d ≡ get_or xs (c * w + s) d
-chunk_at w zero xs c s d h l = absurd (omega arith)
-chunk_at w (suc n) xs zero s d h l = rw (zero-mul, zero-add) (get_or-take w xs s d l)
-chunk_at w (suc n) xs (suc c) s d h l =
-    let place : w + (c * w + s) ≡ suc c * w + s = rw (suc-mul) (omega arith) in
-    chunk_at w n (drop w xs) c s d (omega arith) l ∙ get_or-drop w xs (c * w + s) d ∙ ap (λ (k : ℕ). get_or xs k d) place
 
 every_either : (b : Bool) (m : ℕ) (p q : ℕ → Bool) → every m (λ s. cond b (p s) (q s)) ≡ cond b (every m p) (every m q)
 every_either true m p q = refl

@@ -3,7 +3,7 @@ use Prim.Native.Nat.{ℕ, zero, suc, ◌≤◌}
 use mathlib.Core.Path.{◌≡◌, refl, ap, ◌∙◌}
 use native.Mathlib.Omega.{arith}
 use lib.Dec.{eqb, eqb-suc-zero}
-use Rattle.std.specs.Prelude.{true, Result, Ok, Err, is_ok}
+use Rattle.std.specs.Prelude.{Bool, true, false, if◌then◌else◌, Result, Ok, Err, is_ok}
 use Rattle.std.specs.Result.{result_unwrap_or}
 use Rattle.std.proofs.lemmas.Bool.{true≢false, false≢true, eqb-true}
 use Rattle.numeric.specs.Check.{every}
@@ -37,6 +37,19 @@ answer-err (suc n) done refusal e =
 pub answer-refused : {A : Type 0} (n : ℕ) (done : A) → (n ≡ 0 → ⊥) → answer_of n done ≡ Err (refusal_of n)
 answer-refused zero done h = absurd (h refl)
 answer-refused (suc n) done h = above_zero n done
+
+-- An answer by one test: a refusal tells that it holds, a result that it does not.
+module _ {A : Type 0} (refused : Refusal) (done : A) where
+  abbrev pub tested : Bool → Result A Refusal
+  tested wrong = if wrong then Err refused else Ok done
+
+  pub test_holds : (wrong : Bool) (refusal : Refusal) → Err refusal ≡ tested wrong → (wrong ≡ true) × (refusal ≡ refused)
+  test_holds true refusal e = (refl, ap (refusal_in refusal) e)
+  test_holds false refusal e = absurd (false≢true (ap is_ok e))
+
+  pub test_passed : (wrong : Bool) (a : A) → Ok a ≡ tested wrong → (wrong ≡ false) × (a ≡ done)
+  test_passed true a e = absurd (true≢false (ap is_ok e))
+  test_passed false a e = (refl, ap (λ answer. result_unwrap_or answer done) e)
 
 -- The refusal of a number from 1 to 12 has that number.
 numbers_right : every 12 (λ k. eqb (number (refusal_of (suc k))) (suc k)) ≡ true

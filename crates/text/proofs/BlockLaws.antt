@@ -1,7 +1,7 @@
 -- Laws of `blocks`: length, equal blocks, two runs in one, rows of blocks as one run; for blocks of one width, of the
 -- parts of a run and of a loop that writes them; a part by its bytes, and as a chunk. No assumptions.
 use Prim.Native.Nat.{ℕ, zero, suc, ◌+◌, ◌*◌, ◌/◌, ◌%◌, ◌≤◌, ◌<◌}
-use mathlib.Core.List.{List, [], ◌++◌, append_assoc, append-nil}
+use mathlib.Core.List.{List, ◌++◌, append_assoc, append-nil}
 use mathlib.Core.Logic.{⊎_elim}
 use mathlib.Core.Path.{◌≡◌, refl, sym, ap, ap₂, ◌∙◌}
 use native.Mathlib.Nat.{suc-mul, zero-mul, add-suc, add-zero, mul-le-mul_right, eq-or-lt_of_le, le_of_suc-le-suc}
@@ -10,8 +10,7 @@ use native.Mathlib.Omega.{arith}
 use borrow.Rule.Slice.PartMut.{put_mid}
 use lib.Arith.{digits_div, digits_mod}
 use lib.ListN.{length, take, drop, get_or, length-append, length-take, length-drop}
-use lib.Seq.{drop-drop, drop_at, take-add, take_all, take-append-le, drop-append-le, get_or-take, get_or-drop}
-use Rattle.std.specs.Simd.{first_chunks}
+use lib.Seq.{drop_at, take-add, take_all, take-append-le, drop-append-le, get_or-take, get_or-drop}
 use Rattle.numeric.specs.Table.{tab}
 use Rattle.numeric.proofs.TableLaws.{tab_of_list, tab_eq}
 use Rattle.text.specs.Blocks.{blocks, part}
@@ -93,11 +92,3 @@ module _ (w : ℕ) (f : ℕ → List ℕ) (each : (i : ℕ) → length (f i) ≡
 
   pub all_blocks : (l : List ℕ) (n : ℕ) → length l₀ ≡ n * w → l ≡ put l₀ 0 (blocks n f) → l ≡ blocks n f
   all_blocks l n long e = e ∙ put_all l₀ (blocks n f) (blocks-length w n f each ∙ sym long)
-
--- A text cut into chunks: each is a part of it.
-pub chunk-part : (w n : ℕ) (t : List ℕ) (i : ℕ) → i < n → get_or (first_chunks w n t) i [] ≡ part (i * w) w t
-chunk-part w zero t i h = absurd (omega arith)
-chunk-part w (suc n) t zero h = rw zero-mul refl
-chunk-part w (suc n) t (suc i) h =
-    let next : w + i * w ≡ suc i * w = rw suc-mul (omega arith) in
-    chunk-part w n (drop w t) i (omega arith) ∙ rw (drop-drop (i * w) w t, next) refl

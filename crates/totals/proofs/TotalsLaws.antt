@@ -10,8 +10,9 @@ use borrow.Author.Tests.{ne_eqb, eqb-true, leb-true}
 use lib.Dec.{eqb, leb, lit<}
 use lib.IntN.{ℤ, pos, nat_abs, ◌+ℤ◌, ◌*ℤ◌}
 use lib.ListN.{length, get_or, take, drop}
-use Rattle.std.proofs.lemmas.List.{get_or-take, get_or-drop, drop-drop}
+use Rattle.std.proofs.lemmas.List.{get_or-take, get_or-drop}
 use Rattle.std.specs.Simd.{first_chunks}
+use Rattle.numeric.proofs.ChunkLaws.{chunk_is}
 use Rattle.numeric.specs.Check.{all_of, ◌when◌, first_holding}
 use Rattle.numeric.specs.Sum.{sum}
 use Rattle.numeric.proofs.Bounds.{abs_at, abs_mul_le}
@@ -113,19 +114,10 @@ cell_amount amounts c s h =
 first_cell : (amounts : List ℤ) (s : ℕ) → amount_at amounts 0 s ≡ get_or amounts s (pos 0)
 first_cell amounts s = ap (λ (j : ℕ). get_or amounts j (pos 0)) (zero-add s)
 
-chunk_at : (k c : ℕ) (amounts : List ℤ) → c < k
-    → get_or (first_chunks substances k amounts) c [] ≡ cell_amounts amounts c
-chunk_at zero c amounts h = absurd (omega arith)
-chunk_at (suc k) zero amounts h = refl
-chunk_at (suc k) (suc c) amounts h =
-    let next : substances + c * substances ≡ suc c * substances = omega arith in
-    chunk_at k c (drop substances amounts) (omega arith)
-    ∙ rw (drop-drop (c * substances) substances amounts, next) refl
-
 pub chunk_of : (amounts : List ℤ) (cells : List (List ℤ)) (c : ℕ)
     → cells ≡ first_chunks substances (length amounts / substances) amounts → length amounts ≡ most_cells * substances
     → c < most_cells → get_or cells c [] ≡ cell_amounts amounts c
-chunk_of amounts cells c e long h = rw e (chunk_at (length amounts / substances) c amounts (omega arith))
+chunk_of amounts cells c e long h = rw e (chunk_is substances (length amounts / substances) amounts c (omega arith))
 
 -- They hold what the cell holds.
 pub cell_alone : (set : Set) (amounts : List ℤ) (c : ℕ)

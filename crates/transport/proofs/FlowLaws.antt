@@ -16,7 +16,8 @@ use borrow.Author.Tests.{lt-ltb, le-ltb, leb-true, not-false}
 use Rattle.numeric.specs.Check.{all_of, ◌when◌}
 use Rattle.numeric.proofs.Difference.{up, dn}
 use Rattle.numeric.proofs.Expression.{v, #, ◌⊕◌, ◌⊖◌, at_most, at_most_of, below_of}
-use Rattle.numeric.proofs.Bounds.{abs_mul, parts_mono}
+use Rattle.std.proofs.lemmas.Int.{unsigned_abs-mul}
+use Rattle.numeric.proofs.Bounds.{parts_mono}
 use Rattle.numeric.proofs.Quotient.{quot_neg, quot_split, abs_quot}
 use Rattle.numeric.proofs.CheckLaws.{row_in, row_beyond, first_last}
 use Rattle.numeric.proofs.TableLaws.{get_or-tab}
@@ -76,7 +77,7 @@ passing_zero part = ap pos (omega arith)
 pub passing_bound : (part : ℕ) (z : ℤ) → part ≤ 10000 → nat_abs (passing part z) ≤ nat_abs z
 unfolding passing
 passing_bound part z h =
-    omega (arith, abs_quot (z *ℤ pos part) 10000, abs_mul z (pos part), share_le part (nat_abs z) h)
+    omega (arith, abs_quot (z *ℤ pos part) 10000, unsigned_abs-mul z (pos part), share_le part (nat_abs z) h)
 
 module _ (part : ℕ) (p : part ≤ 10000) where
   -- Of a larger amount no less passes and no less stays.

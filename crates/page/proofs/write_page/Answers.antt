@@ -1,20 +1,17 @@
 -- `write_page` meets its contract: each return is one case of the checks in their order (proofs/Written.antt).
 -- No assumptions.
-use Rattle.std.proofs.Common.{◌≡◌, Err, ℕ, refl, sym, ap, ◌∙◌, arith}
+use Rattle.std.proofs.Common.{ℕ, refl, sym, ap, ◌∙◌, arith}
 use Rattle.std.proofs.lemmas.Result.{err_from_is_err_and}
-use Rattle.stoichiometry.specs.declared.refusals.Refusal.TheVariants.{River}
 use Rattle.stoichiometry.specs.Refusals.{answer_of}
-use Rattle.river.proofs.CheckedLaws.{four_holds, four_passed}
+use Rattle.river.proofs.CheckedLaws.{four_handed, four_passed}
 use Rattle.page.proofs.Written.{river_refused, space_refused, page_accepted, output_stays, page_written}
 use Rattle.page.proofs.write_page.Goals as goal
 
 pub returns-in_err-checked : goal.returns-in_err-checked
 returns-in_err-checked c =
-    let handed = err_from_is_err_and c.from_residual.result c.from_residual.ensures.1 in
-    let wrong = four_holds c.args.river _ c.in_err-checked.ensures.answer in
-    let four : c.from_residual.result ≡ Err River = rw (handed.1, handed.2, wrong.1) refl in
+    let (four, wrong) = four_handed c.args.river (err_from_is_err_and _ c.from_residual.ensures.1) c.in_err-checked.ensures.answer in
     record {
-      answer = four ∙ ap (λ (n : ℕ). answer_of n tt) (sym (river_refused c.args.river _ wrong.0));
+      answer = four ∙ ap (λ (n : ℕ). answer_of n tt) (sym (river_refused c.args.river _ wrong));
       output = rw four (sym (output_stays 4 _ _ refl));
     }
 

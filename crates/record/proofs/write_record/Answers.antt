@@ -1,10 +1,9 @@
 -- `write_record` meets its contract: each return is one case of the checks in their order; the output is the record
 -- of the cells, and the work area its copy (proofs/Written.antt). No assumptions.
-use Rattle.std.proofs.Common.{arith, ◌≡◌, ◌*◌, ◌≤◌, Err, ℕ, refl, sym, ap, ◌∙◌, length}
+use Rattle.std.proofs.Common.{arith, ◌≡◌, ◌*◌, ◌≤◌, ℕ, refl, sym, ap, ◌∙◌, length}
 use Rattle.std.proofs.lemmas.Result.{err_from_is_err_and}
-use Rattle.stoichiometry.specs.declared.refusals.Refusal.TheVariants.{River}
 use Rattle.stoichiometry.specs.Refusals.{answer_of}
-use Rattle.river.proofs.CheckedLaws.{four_holds, four_passed}
+use Rattle.river.proofs.CheckedLaws.{four_handed, four_passed}
 use Rattle.record.specs.Lines.{cell_bytes, record_of}
 use Rattle.record.specs.Writing.{write_number}
 use Rattle.record.proofs.Written.{river_refused, space_refused, write_accepted, output_stays, work_stays}
@@ -13,11 +12,9 @@ use Rattle.record.proofs.write_record.Goals as goal
 
 pub returns-in_err-checked : goal.returns-in_err-checked
 returns-in_err-checked c =
-    let handed = err_from_is_err_and c.from_residual.result c.from_residual.ensures.1 in
-    let wrong = four_holds c.args.river _ c.in_err-checked.ensures.answer in
-    let four : c.from_residual.result ≡ Err River = rw (handed.1, handed.2, wrong.1) refl in
+    let (four, wrong) = four_handed c.args.river (err_from_is_err_and _ c.from_residual.ensures.1) c.in_err-checked.ensures.answer in
     record {
-      answer = four ∙ ap (λ (n : ℕ). answer_of n tt) (sym (river_refused c.args.river _ _ wrong.0));
+      answer = four ∙ ap (λ (n : ℕ). answer_of n tt) (sym (river_refused c.args.river _ _ wrong));
       output = rw four (sym (output_stays 4 _ _ refl));
       work = rw four (sym (work_stays 4 _ _ refl));
     }

@@ -1,11 +1,13 @@
 -- `step_river` meets its contract: each test is a check of the definition, in its order (proofs/StepNumber.antt).
 -- No assumptions.
-use Rattle.std.proofs.Common.{sym}
+use Rattle.std.proofs.Common.{sym, ◌∙◌}
 use Rattle.std.proofs.lemmas.Result.{err_from_is_err_and}
+use Rattle.stoichiometry.specs.declared.refusals.Refusal.TheVariants.{Batches}
+use Rattle.stoichiometry.proofs.RefusalLaws.{test_holds, test_passed}
 use Rattle.stoichiometry.proofs.SetNumber.{accepted-passes}
-use Rattle.river.proofs.CheckedLaws.{four_holds, four_passed}
+use Rattle.river.proofs.CheckedLaws.{four_handed, four_passed}
 use Rattle.kinetics.proofs.ConditionLaws.{conditions_fit}
-use Rattle.step.proofs.StepNumber.{Passed, rows_known, rows_unknown, seven_holds, seven_passed, set_refused, river_refused}
+use Rattle.step.proofs.StepNumber.{Passed, rows_known, rows_unknown, set_refused, river_refused}
 use Rattle.step.proofs.StepNumber.{conditions_refused, batches_refused, amounts_refused, step-accepted}
 use Rattle.step.proofs.step_river.Goals as goal
 use Rattle.step.proofs.step_river.Goals.{Else-are_wrong}
@@ -23,9 +25,9 @@ pub returns-in_err-checked : goal.returns-in_err-checked
 returns-in_err-checked c =
     let a = c.args in
     let accepted = (rows_known a.set _ c.in_ok-rows.ensures.answer).0 in
-    let handed = err_from_is_err_and c.from_residual-in_err-checked.result c.from_residual-in_err-checked.ensures.1 in
-    let wrong = four_holds a.river _ c.in_err-checked.ensures.answer in
-    record { answer = rw (handed.1, handed.2, wrong.1) (sym (river_refused a.set a.river a.conditions accepted wrong.0)) }
+    let handed = err_from_is_err_and _ c.from_residual-in_err-checked.ensures.1 in
+    let (four, wrong) = four_handed a.river handed c.in_err-checked.ensures.answer in
+    record { answer = four ∙ sym (river_refused a.set a.river a.conditions accepted wrong) }
 
 -- Refused by the conditions.
 pub returns-then-are_wrong : goal.returns-then-are_wrong
@@ -65,7 +67,7 @@ returns-in_err-step_cells c =
     let a = c.args in
     let handed = err_from_is_err_and c.from_residual-in_err-step_cells.result c.from_residual-in_err-step_cells.ensures.1 in
     let same = (four_passed a.river c.in_ok-checked.checked c.in_ok-checked.ensures.answer).1 in
-    let known = seven_holds _ _ (rw same at c.in_err-step_cells.ensures.batches) in
+    let known = test_holds Batches tt _ _ (rw same at c.in_err-step_cells.ensures.batches) in
     record { answer = rw (handed.1, handed.2, known.1) (sym (batches_refused a.set a.river a.conditions (passed (search)) known.0)) }
 
 -- Refused by the amounts after.
@@ -73,7 +75,7 @@ pub returns-then-not-amounts_fit : goal.returns-then-not-amounts_fit
 returns-then-not-amounts_fit c =
     let a = c.args in
     let same = (four_passed a.river c.in_ok-checked.checked c.in_ok-checked.ensures.answer).1 in
-    let few = seven_passed _ (rw same at c.in_ok-step_cells.ensures.batches) in
+    let few = (test_passed Batches tt _ tt (rw same at c.in_ok-step_cells.ensures.batches)).0 in
     let amounts = rw same at c.in_ok-step_cells.ensures.amounts_after in
     let wrong = rw amounts at (sym c.if-not-amounts_fit.ensures.answer) in
     record { answer = sym (amounts_refused a.set a.river a.conditions (passed (search)) few wrong) }
@@ -83,7 +85,7 @@ pub returns : goal.returns
 returns c =
     let a = c.args in
     let same = (four_passed a.river c.in_ok-checked.checked c.in_ok-checked.ensures.answer).1 in
-    let few = seven_passed _ (rw same at c.in_ok-step_cells.ensures.batches) in
+    let few = (test_passed Batches tt _ tt (rw same at c.in_ok-step_cells.ensures.batches)).0 in
     let amounts = rw same at c.in_ok-step_cells.ensures.amounts_after in
     let carries = rw same at c.in_ok-step_cells.ensures.rest_after in
     let right = rw amounts at (sym c.if-not-amounts_fit.ensures.answer) in
