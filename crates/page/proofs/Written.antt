@@ -1,4 +1,4 @@
--- What the writes leave in the output: a level, a row; and the number of a write by its checks. No assumptions.
+-- What the writes leave in the output: a row; and the number of a write by its checks. No assumptions.
 use Prim.Native.Nat.{ℕ, ◌+◌, ◌*◌, ◌/◌, ◌%◌, ◌≤◌, ◌<◌}
 use mathlib.Core.Bool.{Bool, true, false, cond}
 use mathlib.Core.List.{List, [], ◌∷◌, ◌++◌}

@@ -49,8 +49,8 @@ value_of_cell t u c k e h =
 
 -- So are its numbers, and whether each line has one.
 module _ (t u : List ℕ) (c : ℕ) (e : u ≡ part (c * cell_bytes) cell_bytes t) where
-  pub number_of_cell : (k : ℕ) → k < lines → number_in u c k ≡ number_at t c k
-  number_of_cell k h = ap (λ (o : Option ℤ). unwrap_or o (pos 0)) (value_of_cell t u c k e h)
+  pub number_in_cell : (k : ℕ) → k < lines → number_in u c k ≡ number_at t c k
+  number_in_cell k h = ap (λ (o : Option ℤ). unwrap_or o (pos 0)) (value_of_cell t u c k e h)
 
   pub cell_found_lem : cell_found u c ≡ cell_right t c
   cell_found_lem = every_eq lines _ _ (λ k h. ap is_some (value_of_cell t u c k e h))

@@ -8,24 +8,22 @@ ghost use Rattle.rows.specs.Inner.Code.{spares, takes_up_nothing, consume_o2, wr
 
 use stoichiometry::{ENTRIES, PROCESSES, SUBSTANCES, place};
 
-// The process at p takes up nothing of the substance at place s.
-fn spares(entries: &[i64; ENTRIES], p: usize, s: usize) -> bool
-    requires process_exists { p < processes }
-    requires substance_exists { s < substances }
-    ensures { result ≡ spares entries.now p s }
+// The process of the row takes up nothing of the substance at place s.
+fn spares(row: &[i64; SUBSTANCES], s: usize) -> bool
+    requires { s < substances }
+    ensures { result ≡ spares row.now s }
 {
-    0 <= entries[p * SUBSTANCES + s]
+    0 <= row[s]
 }
 
-// The process at p takes up no NH4, HPO4, O2 or HCO3.
-fn takes_up_nothing(entries: &[i64; ENTRIES], p: usize) -> bool
-    requires { p < processes }
-    ensures { result ≡ takes_up_nothing entries.now p }
+// The process of the row takes up no NH4, HPO4, O2 or HCO3.
+fn takes_up_nothing(row: &[i64; SUBSTANCES]) -> bool
+    ensures { result ≡ takes_up_nothing row.now }
 {
-    spares(entries, p, place::NH4)
-        && spares(entries, p, place::HPO4)
-        && spares(entries, p, place::O2)
-        && spares(entries, p, place::HCO3)
+    spares(row, place::NH4)
+        && spares(row, place::HPO4)
+        && spares(row, place::O2)
+        && spares(row, place::HCO3)
 }
 
 #[tactic(auto, unfolding(numeric::specs::Check::all_of))]
@@ -50,5 +48,6 @@ fn consume_o2(oxygen: &[i64; PROCESSES]) -> bool
 pub(crate) fn rows_wrong(entries: &[i64; ENTRIES], oxygen: &[i64; PROCESSES]) -> bool
     ensures { result ≡ wrong_of entries.now oxygen.now }
 {
-    !(consume_o2(oxygen) && takes_up_nothing(entries, 13) && takes_up_nothing(entries, 14))
+    let (rows, _) = entries.as_chunks::<SUBSTANCES>();
+    !(consume_o2(oxygen) && takes_up_nothing(&rows[13]) && takes_up_nothing(&rows[14]))
 }

@@ -7,7 +7,7 @@ use Rattle.stoichiometry.specs.Rows.{processes}
 use Rattle.stoichiometry.specs.Substances.{substances}
 use Rattle.river.specs.Rivers.{most_cells}
 use Rattle.record_reading.specs.Reading.{cells_in, lines_right, amounts_in, carries_in}
-use Rattle.record_reading.proofs.ReadCells.{cell_is, number_of_cell, cell_found_lem}
+use Rattle.record_reading.proofs.ReadCells.{cell_is, number_in_cell, cell_found_lem}
 use Rattle.record_reading.proofs.reading.read_cells.Goals as goal
 
 pub loop-c-init : goal.loop-c-init
@@ -35,9 +35,9 @@ loop-c-preserved c =
       every_more n _ c.loop-c.invariant.0 (sym (cell_found_lem t _ n cut) ∙ sym ok.value),
       ok.cells_kept ∙ c.loop-c.invariant.1,
       rows_next most_cells substances _ _ _ n _ _ _ c.loop-c.invariant.2 inside most
-          (λ k h. number_of_cell t _ n cut k (omega arith)) ok.amounts_after,
+          (λ k h. number_in_cell t _ n cut k (omega arith)) ok.amounts_after,
       rows_next most_cells processes _ _ _ n _ _ _ c.loop-c.invariant.3 inside most
-          (λ p h. ap nat_abs (number_of_cell t _ n cut (substances + p) (omega arith))) ok.carries_after,
+          (λ p h. ap nat_abs (number_in_cell t _ n cut (substances + p) (omega arith))) ok.carries_after,
     )
 
 pub returns-clause-value : goal.returns-clause-value
