@@ -1,19 +1,22 @@
 -- What an answer of check 4 tells of the river (specs/Checked.antt). No assumptions.
+use Prim.Native.Nat.{ℕ, ◌<◌}
 use mathlib.Core.Bool.{Bool, true, false}
 use mathlib.Core.List.{[], ◌∷◌}
-use mathlib.Core.Path.{◌≡◌, refl, ap}
+use mathlib.Core.Path.{◌≡◌, refl, sym, ap}
 use Rattle.std.specs.Prelude.{Result, Ok, Err, is_ok}
 use Rattle.std.specs.Result.{result_unwrap_or}
 use Rattle.std.proofs.lemmas.Bool.{true≢false, false≢true}
 use Rattle.numeric.specs.Check.{first_holding, ◌when◌}
 use Rattle.stoichiometry.specs.Refusals.{answer_of}
+use Rattle.stoichiometry.specs.Substances.{substances}
 use Rattle.stoichiometry.specs.declared.refusals.Refusal.{Refusal}
 use Rattle.stoichiometry.specs.declared.refusals.Refusal.TheVariants.{River as RiverWrong}
 use Rattle.stoichiometry.proofs.RefusalLaws.{refusal_in}
 use Rattle.river.specs.declared.River.{River}
 use Rattle.river.specs.declared.checked.Checked.{Checked}
-use Rattle.river.specs.Rivers.{river_wrong}
+use Rattle.river.specs.Rivers.{river_wrong, cell_exists}
 use Rattle.river.specs.Checked.{checked_answer}
+use Rattle.river.proofs.Rivers.{AmountKnown, amount_known}
 
 -- By whether check 4 holds.
 module _ (r : River) where
@@ -40,3 +43,8 @@ module _ (r : River) where
       → (river_wrong r ≡ false) × (checked.river.now ≡ r)
   unfolding checked_answer by_test
   four_passed checked = right_passed (river_wrong r) checked.river.now
+
+  -- What is known of an amount of a cell of it that exists.
+  pub passed_known : (checked : Checked) (cell s : ℕ) → Ok checked.river.now ≡ checked_answer r
+      → true ≡ cell_exists r cell → s < substances → AmountKnown r cell s
+  passed_known checked cell s e exists l = amount_known r (four_passed checked e).0 cell s (sym exists) l
