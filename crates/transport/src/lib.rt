@@ -43,7 +43,7 @@ impl Aired {
 
 // Changes an amount by `added`, the whole number added, of either sign; the cell and the substance are counted from 1.
 // Refuses with 4, 5 or 8, in this order.
-#[tactic(auto, using(river::proofs::CheckedLaws::four_passed), unfolding(crate::specs::Load::load_answer, crate::specs::Load::load_number, numeric::specs::Check::first_holding))]
+#[tactic(auto, using(river::proofs::CheckedLaws::four_holds, river::proofs::CheckedLaws::four_passed), unfolding(crate::specs::Load::load_answer, crate::specs::Load::load_number, numeric::specs::Check::first_holding))]
 pub fn load_river(mut river: River, cell: u32, substance: u32, added: i64) -> Result<River, Refusal>
     ensures answer { result ≡ load_answer river cell substance added }
 {
@@ -63,7 +63,7 @@ pub fn load_river(mut river: River, cell: u32, substance: u32, added: i64) -> Re
 
 // A flow of a part. Refuses with 4 (a wrong river) or 6 (a part above 10,000), in this order. There is no test for 8:
 // the amounts after are always in their bounds (proofs/FlowLaws.antt, flow_never_eight).
-#[tactic(auto, using(river::proofs::CheckedLaws::four_passed), unfolding(crate::specs::Flow::flow_answer, crate::specs::Flow::flow_number, numeric::specs::Check::first_holding))]
+#[tactic(auto, using(river::proofs::CheckedLaws::four_holds, river::proofs::CheckedLaws::four_passed), unfolding(crate::specs::Flow::flow_answer, crate::specs::Flow::flow_number, numeric::specs::Check::first_holding))]
 pub fn flow_river(river: River, part: u32) -> Result<Flowed, Refusal>
     ensures answer { result ≡ flow_answer river part }
 {
@@ -86,7 +86,7 @@ pub fn flow_river(river: River, part: u32) -> Result<Flowed, Refusal>
 // Exchange of O2 between a cell, counted from 1, and the air. Answers the river with the cell's O2 changed, and the
 // gain. Refuses with 4, 5 or 6, in this order. That the O2 after is in its bounds is not tested: it always is, by the
 // law air_never_eight.
-#[tactic(auto, using(river::proofs::CheckedLaws::four_passed), unfolding(crate::specs::Air::air_answer, crate::specs::Air::air_number, numeric::specs::Check::first_holding))]
+#[tactic(auto, using(river::proofs::CheckedLaws::four_holds, river::proofs::CheckedLaws::four_passed), unfolding(crate::specs::Air::air_answer, crate::specs::Air::air_number, numeric::specs::Check::first_holding))]
 pub fn air_river(
     mut river: River,
     cell: u32,

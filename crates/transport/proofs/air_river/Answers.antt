@@ -1,25 +1,17 @@
 -- `air_river` meets its contract: past checks 4 to 6 the O2 is known, and check 8 does not hold (proofs/AirLaws.antt,
 -- air_never_eight). No assumptions.
-use Rattle.std.proofs.Common.{refl, sym, ◌∙◌}
+use Rattle.std.proofs.Common.{sym, ◌∙◌}
 use borrow.Author.Rules.{sfits_of}
 use lib.Dec.{lit<}
 use mir.Facts.{to_z-of_z}
 use mir.Syntax.{w64}
-use Rattle.std.proofs.lemmas.Result.{err_from_is_err_and}
 use Rattle.numeric.specs.Check.{first_holding}
 use Rattle.stoichiometry.specs.Substances.{o2, place}
-use Rattle.river.proofs.CheckedLaws.{four_holds, four_passed, passed_known}
+use Rattle.river.proofs.CheckedLaws.{four_passed, passed_known}
 use Rattle.river.proofs.Rivers.{fits_machine}
 use Rattle.transport.specs.Air.{air_number, air_answer}
 use Rattle.transport.proofs.AirLaws.{air_never_eight}
 use Rattle.transport.proofs.air_river.Goals as goal
-
-pub returns-in_err-checked : goal.returns-in_err-checked
-unfolding air_answer air_number first_holding
-returns-in_err-checked c =
-    let handed = err_from_is_err_and c.from_residual.result c.from_residual.ensures.1 in
-    let wrong = four_holds c.args.river _ c.in_err-checked.ensures.answer in
-    record { answer = rw (handed.1, handed.2, wrong.1, wrong.0) refl }
 
 pub amount_at-before-requires-clause-cell : goal.amount_at-before-requires-clause-cell
 amount_at-before-requires-clause-cell c =

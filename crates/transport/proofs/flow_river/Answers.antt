@@ -1,22 +1,13 @@
 -- `flow_river` meets its contract: past checks 4 and 6 check 8 does not hold either (proofs/FlowLaws.antt).
 -- No assumptions.
-use Rattle.std.proofs.Common.{refl}
 use borrow.Author.Tests.{le-leb}
-use Rattle.std.proofs.lemmas.Result.{err_from_is_err_and}
 use Rattle.numeric.specs.Check.{first_holding}
-use Rattle.river.proofs.CheckedLaws.{four_holds, four_passed}
+use Rattle.river.proofs.CheckedLaws.{four_passed}
 use Rattle.river.proofs.Rivers.{river-cells}
 use Rattle.transport.specs.Flow.{flow_number, flow_answer}
 use Rattle.transport.proofs.FlowLaws.{flow_never_eight}
 use Rattle.transport.proofs.FlowLists.{river-within, left-within}
 use Rattle.transport.proofs.flow_river.Goals as goal
-
-pub returns-in_err-checked : goal.returns-in_err-checked
-unfolding flow_answer flow_number first_holding
-returns-in_err-checked c =
-    let handed = err_from_is_err_and c.from_residual.result c.from_residual.ensures.1 in
-    let wrong = four_holds c.args.river _ c.in_err-checked.ensures.answer in
-    record { answer = rw (handed.1, handed.2, wrong.1, wrong.0) refl }
 
 pub leave_cells-requires : goal.leave_cells-requires
 leave_cells-requires c =

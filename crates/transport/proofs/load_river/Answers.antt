@@ -1,19 +1,11 @@
 -- `load_river` meets its contract: past the checks the amount is known, and the sum is in its bounds. No assumptions.
 use Rattle.std.proofs.Common.{◌-◌, arith, refl, sym}
-use Rattle.std.proofs.lemmas.Result.{err_from_is_err_and}
 use mir.Facts.{to_z-of_z}
 use Rattle.numeric.specs.Check.{first_holding}
-use Rattle.river.proofs.CheckedLaws.{four_holds, four_passed, passed_known}
+use Rattle.river.proofs.CheckedLaws.{four_passed, passed_known}
 use Rattle.river.proofs.Rivers.{fits_machine, substance_bound}
 use Rattle.transport.specs.Load.{load_number, load_answer}
 use Rattle.transport.proofs.load_river.Goals as goal
-
-pub returns-in_err-checked : goal.returns-in_err-checked
-unfolding load_answer load_number first_holding
-returns-in_err-checked c =
-    let handed = err_from_is_err_and c.from_residual.result c.from_residual.ensures.1 in
-    let wrong = four_holds c.args.river _ c.in_err-checked.ensures.answer in
-    record { answer = rw (handed.1, handed.2, wrong.1, wrong.0) refl }
 
 pub amount_at-amount-requires-clause-cell : goal.amount_at-amount-requires-clause-cell
 amount_at-amount-requires-clause-cell c =
