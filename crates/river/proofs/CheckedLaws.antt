@@ -1,17 +1,20 @@
 -- What an answer of check 4 tells of the river (specs/Checked.antt). No assumptions.
+use Prim.Native.Nat.{ℕ, ◌<◌}
 use mathlib.Core.Bool.{Bool, true, false}
 use mathlib.Core.List.{[], ◌∷◌}
-use mathlib.Core.Path.{◌≡◌, refl, ◌∙◌}
+use mathlib.Core.Path.{◌≡◌, refl, sym, ◌∙◌}
 use Rattle.std.specs.Prelude.{Result, Ok, Err}
 use Rattle.numeric.specs.Check.{first_holding, ◌when◌}
 use Rattle.stoichiometry.specs.Refusals.{answer_of}
+use Rattle.stoichiometry.specs.Substances.{substances}
 use Rattle.stoichiometry.specs.declared.refusals.Refusal.{Refusal}
 use Rattle.stoichiometry.specs.declared.refusals.Refusal.TheVariants.{River as RiverWrong}
 use Rattle.stoichiometry.proofs.RefusalLaws.{tested, test_holds, test_passed}
 use Rattle.river.specs.declared.River.{River}
 use Rattle.river.specs.declared.checked.Checked.{Checked}
-use Rattle.river.specs.Rivers.{river_wrong}
+use Rattle.river.specs.Rivers.{river_wrong, cell_exists}
 use Rattle.river.specs.Checked.{checked_answer}
+use Rattle.river.proofs.Rivers.{AmountKnown, amount_known}
 
 module _ (r : River) where
   one_test : (wrong : Bool) → answer_of (first_holding (4 when wrong ∷ [])) r ≡ tested RiverWrong r wrong
@@ -37,3 +40,8 @@ module _ (r : River) where
       → (river_wrong r ≡ false) × (checked.river.now ≡ r)
   unfolding checked_answer
   four_passed checked e = test_passed RiverWrong r (river_wrong r) checked.river.now (e ∙ one_test (river_wrong r))
+
+  -- What is known of an amount of a cell of it that exists.
+  pub passed_known : (checked : Checked) (cell s : ℕ) → Ok checked.river.now ≡ checked_answer r
+      → true ≡ cell_exists r cell → s < substances → AmountKnown r cell s
+  passed_known checked cell s e exists l = amount_known r (four_passed checked e).0 cell s (sym exists) l

@@ -43,9 +43,7 @@ pub fn totals_of(set: Set, river: River, cell: u32) -> Result<Totals, Refusal>
     ensures answer { result ≡ totals_answer set river cell }
 {
     check(set)?;
-    if !river.fits() {
-        return Err(Refusal::River);
-    }
+    river.checked()?;
     if !in_range(1, river.cells, cell) {
         return Err(Refusal::Place);
     }

@@ -43,13 +43,11 @@ impl Aired {
 
 // Changes an amount by `added`, the whole number added, of either sign; the cell and the substance are counted from 1.
 // Refuses with 4, 5 or 8, in this order.
-#[tactic(auto, unfolding(crate::specs::Load::load_answer, crate::specs::Load::load_number, river::specs::Rivers::river_wrong, numeric::specs::Check::first_holding))]
+#[tactic(auto, using(river::proofs::CheckedLaws::four_holds, river::proofs::CheckedLaws::four_passed), unfolding(crate::specs::Load::load_answer, crate::specs::Load::load_number, numeric::specs::Check::first_holding))]
 pub fn load_river(mut river: River, cell: u32, substance: u32, added: i64) -> Result<River, Refusal>
     ensures answer { result ≡ load_answer river cell substance added }
 {
-    if !river.fits() {
-        return Err(Refusal::River);
-    }
+    river.checked()?;
     if !in_range(1, river.cells, cell) || !in_range(1, SUBSTANCES as u32, substance) {
         return Err(Refusal::Place);
     }
@@ -65,7 +63,7 @@ pub fn load_river(mut river: River, cell: u32, substance: u32, added: i64) -> Re
 
 // A flow of a part. Refuses with 4 (a wrong river) or 6 (a part above 10,000), in this order. There is no test for 8:
 // the amounts after are always in their bounds (proofs/FlowLaws.antt, flow_never_eight).
-#[tactic(auto, unfolding(crate::specs::Flow::flow_answer, crate::specs::Flow::flow_number, river::specs::Rivers::river_wrong, numeric::specs::Check::first_holding))]
+#[tactic(auto, using(river::proofs::CheckedLaws::four_holds, river::proofs::CheckedLaws::four_passed), unfolding(crate::specs::Flow::flow_answer, crate::specs::Flow::flow_number, numeric::specs::Check::first_holding))]
 pub fn flow_river(river: River, part: u32) -> Result<Flowed, Refusal>
     ensures answer { result ≡ flow_answer river part }
 {
@@ -74,9 +72,7 @@ pub fn flow_river(river: River, part: u32) -> Result<Flowed, Refusal>
         river,
         left: [0; AMOUNTS],
     };
-    if !flowed.river.fits() {
-        return Err(Refusal::River);
-    }
+    flowed.river.checked()?;
     if part > Flowed::PART_MOST {
         return Err(Refusal::Conditions);
     }
@@ -90,7 +86,7 @@ pub fn flow_river(river: River, part: u32) -> Result<Flowed, Refusal>
 // Exchange of O2 between a cell, counted from 1, and the air. Answers the river with the cell's O2 changed, and the
 // gain. Refuses with 4, 5 or 6, in this order. That the O2 after is in its bounds is not tested: it always is, by the
 // law air_never_eight.
-#[tactic(auto, unfolding(crate::specs::Air::air_answer, crate::specs::Air::air_number, river::specs::Rivers::river_wrong, numeric::specs::Check::first_holding))]
+#[tactic(auto, using(river::proofs::CheckedLaws::four_holds, river::proofs::CheckedLaws::four_passed), unfolding(crate::specs::Air::air_answer, crate::specs::Air::air_number, numeric::specs::Check::first_holding))]
 pub fn air_river(
     mut river: River,
     cell: u32,
@@ -100,9 +96,7 @@ pub fn air_river(
 ) -> Result<Aired, Refusal>
     ensures answer { result ≡ air_answer river cell constant seconds saturation }
 {
-    if !river.fits() {
-        return Err(Refusal::River);
-    }
+    river.checked()?;
     if !in_range(1, river.cells, cell) {
         return Err(Refusal::Place);
     }

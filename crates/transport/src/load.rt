@@ -31,8 +31,6 @@ pub(crate) fn sum_fits(s: usize, amount: i64, added: i64) -> bool
     requires substance { s < substances }
     ensures { result ≡ amount_fits s (amount +ℤ added) }
 {
-    match amount.checked_add(added) {
-        Some(sum) => amount_fits(s, sum),
-        None => false,
-    }
+    let sum = amount.checked_add(added);
+    sum.is_some_and(|sum| amount_fits(s, sum))
 }

@@ -1,6 +1,5 @@
 -- `totals_of` meets its contract: each return is a case of the number, by that of the set. No assumptions.
-use Rattle.std.proofs.Common.{◌≡◌, ◌∙◌, refl, sym, ap, subst, arith, rules, ◌-◌, ◌*◌, ◌/◌, length, List, ℤ, Result, Ok, Bool, true, false}
-use mathlib.Core.Bool.{not}
+use Rattle.std.proofs.Common.{◌≡◌, ◌∙◌, refl, sym, subst, arith, rules, ◌-◌, ◌*◌, ◌/◌, length, List, ℤ, Result, Ok, true, false}
 use Rattle.std.proofs.lemmas.Result.{err_from_is_err_and}
 use Rattle.numeric.specs.Check.{first_holding}
 use Rattle.stoichiometry.specs.Substances.{substances}
@@ -10,17 +9,13 @@ use Rattle.stoichiometry.specs.Sets.{set_number}
 use Rattle.rows.specs.Answers.{check_answer}
 use Rattle.stoichiometry.proofs.RefusalLaws.{answer-ok}
 use Rattle.stoichiometry.proofs.SetNumber.{accepted-passes}
-use Rattle.river.specs.declared.River.{River}
-use Rattle.river.specs.Rivers.{most_cells, river_fits, river_wrong, cell_exists}
-use Rattle.river.proofs.Rivers.{wrong_tested, river-cells, cell_bound}
+use Rattle.river.specs.Rivers.{most_cells, cell_exists}
+use Rattle.river.proofs.CheckedLaws.{four_holds, four_passed}
+use Rattle.river.proofs.Rivers.{river-cells, cell_bound}
 use Rattle.totals.specs.Totals.{totals_in, totals_answer}
 use Rattle.totals.specs.Inner.TotalsCode.{AddableAmounts}
 use Rattle.totals.proofs.TotalsLaws.{chunk_of, cell_alone, cell_addable, set_refused, number_beside}
 use Rattle.totals.proofs.totals_of.Goals as goal
-
--- A river by the test of it.
-tested : (r : River) (b c : Bool) → b ≡ river_fits r.cells r.amounts r.carries → b ≡ c → river_wrong r ≡ not c
-tested r b c e is = wrong_tested r b e ∙ ap not is
 
 -- A set that passes its checks has the number 0.
 accepted : (set : Set) (checked : Result (Unit {0}) Refusal) → checked ≡ check_answer set → checked ≡ Ok tt
@@ -37,12 +32,14 @@ returns-in_err-check c =
     record { answer = rw (refused.1, refused.2) (set_refused a.set a.river a.cell _ told) }
 
 -- By 4.
-pub returns-then-not-fits : goal.returns-then-not-fits
+pub returns-in_err-checked : goal.returns-in_err-checked
 unfolding totals_answer first_holding
-returns-then-not-fits c =
+returns-in_err-checked c =
     let a = c.args in
     let number = number_beside a.set a.river a.cell (accepted a.set _ c.check.ensures.answer c.in_ok-check.was) in
-    record { answer = rw (number, tested a.river _ _ c.fits.ensures.answer c.if-not-fits.true) refl }
+    let refused = err_from_is_err_and c.from_residual-in_err-checked.result c.from_residual-in_err-checked.ensures.1 in
+    let wrong = four_holds a.river _ c.in_err-checked.ensures.answer in
+    record { answer = rw (refused.1, refused.2, wrong.1, number, wrong.0) refl }
 
 -- By 5.
 pub returns-then-not-in_range : goal.returns-then-not-in_range
@@ -50,14 +47,14 @@ unfolding totals_answer first_holding
 returns-then-not-in_range c =
     let a = c.args in
     let number = number_beside a.set a.river a.cell (accepted a.set _ c.check.ensures.answer c.in_ok-check.was) in
-    let right = tested a.river _ _ c.fits.ensures.answer c.if-not-fits.false in
+    let right = (four_passed a.river c.in_ok-checked.field-0 c.in_ok-checked.ensures.answer).0 in
     let none : cell_exists a.river a.cell ≡ false = sym c.in_range.ensures ∙ c.if-not-in_range.true in
     record { answer = rw (number, right, none) refl }
 
 pub bounds-cells-cell : goal.bounds-cells-cell
 bounds-cells-cell c =
     let a = c.args in
-    let right = tested a.river _ _ c.fits.ensures.answer c.if-not-fits.false in
+    let right = (four_passed a.river c.in_ok-checked.field-0 c.in_ok-checked.ensures.answer).0 in
     let bound = cell_bound a.river a.cell (sym c.in_range.ensures ∙ c.if-not-in_range.false) in
     let cells = river-cells a.river right in
     let long : length a.river.amounts ≡ most_cells * substances = search rules in
@@ -69,7 +66,7 @@ pub of_cell-requires : goal.of_cell-requires
 of_cell-requires c =
     let a = c.args in
     let number = accepted a.set _ c.check.ensures.answer c.in_ok-check.was in
-    let right = tested a.river _ _ c.fits.ensures.answer c.if-not-fits.false in
+    let right = (four_passed a.river c.in_ok-checked.field-0 c.in_ok-checked.ensures.answer).0 in
     let bound = cell_bound a.river a.cell (sym c.in_range.ensures ∙ c.if-not-in_range.false) in
     let cells = river-cells a.river right in
     let chunk = chunk_of a.river.amounts _ (a.cell - 1) c.as_chunks.ensures.front (search rules) (omega arith) in
@@ -81,7 +78,7 @@ unfolding totals_answer first_holding
 returns c =
     let a = c.args in
     let number = number_beside a.set a.river a.cell (accepted a.set _ c.check.ensures.answer c.in_ok-check.was) in
-    let right = tested a.river _ _ c.fits.ensures.answer c.if-not-fits.false in
+    let right = (four_passed a.river c.in_ok-checked.field-0 c.in_ok-checked.ensures.answer).0 in
     let exists : cell_exists a.river a.cell ≡ true = sym c.in_range.ensures ∙ c.if-not-in_range.false in
     let bound = cell_bound a.river a.cell exists in
     let cells = river-cells a.river right in

@@ -1,34 +1,39 @@
 -- `air_river` meets its contract: past checks 4 to 6 the O2 is known, and check 8 does not hold (proofs/AirLaws.antt,
 -- air_never_eight). No assumptions.
-use Rattle.std.proofs.Common.{sym, true, ◌∙◌}
+use Rattle.std.proofs.Common.{sym, ◌∙◌}
 use borrow.Author.Rules.{sfits_of}
 use lib.Dec.{lit<}
 use mir.Facts.{to_z-of_z}
 use mir.Syntax.{w64}
 use Rattle.numeric.specs.Check.{first_holding}
 use Rattle.stoichiometry.specs.Substances.{o2, place}
-use Rattle.river.specs.Rivers.{river_wrong}
-use Rattle.river.proofs.Rivers.{wrong_tested, tested_known, fits_machine}
+use Rattle.river.proofs.CheckedLaws.{four_passed, passed_known}
+use Rattle.river.proofs.Rivers.{fits_machine}
 use Rattle.transport.specs.Air.{air_number, air_answer}
 use Rattle.transport.proofs.AirLaws.{air_never_eight}
 use Rattle.transport.proofs.air_river.Goals as goal
 
 pub amount_at-before-requires-clause-cell : goal.amount_at-before-requires-clause-cell
 amount_at-before-requires-clause-cell c =
-    let tests = tested_known c.args.river c.args.cell (place o2) c.if-not-fits.ensures.answer c.if-not-in_range.ensures in
-    (tests (lit< tt)).below
+    let checked = c.in_ok-checked in
+    (passed_known c.args.river checked.field-0 c.args.cell (place o2) checked.ensures.answer c.if-not-in_range.ensures
+    (lit< tt)).below
 
 pub gain-amount-requires-clause-amount : goal.gain-amount-requires-clause-amount
 gain-amount-requires-clause-amount c =
-    let tests = tested_known c.args.river c.args.cell (place o2) c.if-not-fits.ensures.answer c.if-not-in_range.ensures in
-    let known = tests (lit< tt) in
+    let checked = c.in_ok-checked in
+    let known =
+    passed_known c.args.river checked.field-0 c.args.cell (place o2) checked.ensures.answer c.if-not-in_range.ensures
+    (lit< tt) in
     rw (c.amount_at-before.ensures, known.same) known.fits
 
 pub overflow_add-before : goal.overflow_add-before
 overflow_add-before c =
-    let tests = tested_known c.args.river c.args.cell (place o2) c.if-not-fits.ensures.answer c.if-not-in_range.ensures in
-    let known = tests (lit< tt) in
-    let right = wrong_tested c.args.river true c.if-not-fits.ensures.answer in
+    let checked = c.in_ok-checked in
+    let known =
+    passed_known c.args.river checked.field-0 c.args.cell (place o2) checked.ensures.answer c.if-not-in_range.ensures
+    (lit< tt) in
+    let right = (four_passed c.args.river checked.field-0 checked.ensures.answer).0 in
     let after =
     air_never_eight c.args.river c.args.cell c.args.constant c.args.seconds c.args.saturation right
     (sym c.if-not-in_range.ensures) (sym c.if-is_wrong.ensures) in
@@ -39,15 +44,18 @@ overflow_add-before c =
 
 pub set_amount-requires-clause-cell : goal.set_amount-requires-clause-cell
 set_amount-requires-clause-cell c =
-    let tests = tested_known c.args.river c.args.cell (place o2) c.if-not-fits.ensures.answer c.if-not-in_range.ensures in
-    (tests (lit< tt)).below
+    let checked = c.in_ok-checked in
+    (passed_known c.args.river checked.field-0 c.args.cell (place o2) checked.ensures.answer c.if-not-in_range.ensures
+    (lit< tt)).below
 
 pub returns : goal.returns
-unfolding air_answer air_number river_wrong first_holding
+unfolding air_answer air_number first_holding
 returns c =
-    let tests = tested_known c.args.river c.args.cell (place o2) c.if-not-fits.ensures.answer c.if-not-in_range.ensures in
-    let known = tests (lit< tt) in
-    let right = wrong_tested c.args.river true c.if-not-fits.ensures.answer in
+    let checked = c.in_ok-checked in
+    let known =
+    passed_known c.args.river checked.field-0 c.args.cell (place o2) checked.ensures.answer c.if-not-in_range.ensures
+    (lit< tt) in
+    let right = (four_passed c.args.river checked.field-0 checked.ensures.answer).0 in
     let after =
     air_never_eight c.args.river c.args.cell c.args.constant c.args.seconds c.args.saturation right
     (sym c.if-not-in_range.ensures) (sym c.if-is_wrong.ensures) in
@@ -62,7 +70,7 @@ returns c =
             known.same,
             gain,
             to_z-of_z (fits_machine (place o2) _ (lit< tt) after),
-            ← c.if-not-fits.ensures.answer,
+            right,
             ← c.if-not-in_range.ensures,
             ← c.if-is_wrong.ensures,
             after,
