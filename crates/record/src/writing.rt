@@ -56,10 +56,10 @@ fn write_cell(text: &mut [u8], river: &River, c: usize, labels: &Labels)
     ensures { text.new ≡ cell_text lines (value_of river.now.amounts river.now.carries) c }
 {
     let cell = two_columns((c + 1) as u32);
-    for k in 0..Record::LINES {
+    for (k, label) in labels.iter().enumerate() {
         let at = k * Record::LINE_BYTES;
         let line = &mut text[at..at + Record::LINE_BYTES];
-        write_line(line, cell, labels[k], value_at(river, c, k));
+        write_line(line, cell, *label, value_at(river, c, k));
     }
 }
 

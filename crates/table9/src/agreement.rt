@@ -4,7 +4,8 @@ ghost use Rattle.table9.specs.Agreement.{InReach, agrees_with};
 
 use stoichiometry::{ENTRIES, SUBSTANCES, place};
 
-// A printed figure: its digits as one number, and 10 to the number of its decimals.
+// A printed figure: its digits as one number, and 10 to the number of its decimals. The sign stands beside, here and
+// below, as in `agrees_with`: an entry times its weight reaches 1.8 * 10^19, past the numbers of i64.
 #[derive(Clone, Copy)]
 pub(crate) struct Figure {
     pub negative: bool,
@@ -59,11 +60,7 @@ const ENTRY_MOST: u64 = 30000000000;
 // An entry without its sign, in the unit of `weight`; none where it is out of reach.
 fn amount(entry: i64, substance: usize) -> Option<u64> {
     let size = entry.unsigned_abs();
-    if size <= ENTRY_MOST {
-        Some(size * weight(substance))
-    } else {
-        None
-    }
+    (size <= ENTRY_MOST).then(|| size * weight(substance))
 }
 
 // What a row has per gram of its reference: amount / unit, below zero where `negative` holds.
@@ -95,23 +92,25 @@ impl Coefficient {
     }
 }
 
-// The row of a process, none where there is no such process, and the place of the substance of which it is per gram.
+// The row of a process, and the place of the substance of which it is per gram.
 #[derive(Clone, Copy)]
 pub(crate) struct Row<'a> {
-    entries: Option<&'a [i64]>,
+    entries: &'a [i64],
     reference: usize,
 }
 
 impl<'a> Row<'a> {
-    pub(crate) fn of(rows: &'a [i64; ENTRIES], process: usize) -> Row<'a> {
-        Row {
-            entries: rows.chunks_exact(SUBSTANCES).nth(process.wrapping_sub(1)),
+    // None where there is no such process.
+    pub(crate) fn of(rows: &'a [i64; ENTRIES], process: usize) -> Option<Row<'a>> {
+        let entries = rows.chunks_exact(SUBSTANCES).nth(process.checked_sub(1)?)?;
+        Some(Row {
+            entries,
             reference: reference(process),
-        }
+        })
     }
 
     fn entry(self, substance: usize) -> Option<i64> {
-        self.entries?.get(substance).copied()
+        self.entries.get(substance).copied()
     }
 
     fn coefficient(self, substance: usize) -> Option<Coefficient> {

@@ -56,12 +56,20 @@ impl<'a, P: Print> Day<'a, P> {
         })
     }
 
-    fn load(mut self, substance: u32, number: i64) -> Result<Day<'a, P>> {
-        let before = self.river;
-        let answer = transport::load_river(before, 1, substance, number);
-        println!(self.rt; "load {}", number_of(&answer))?;
-        self.river = answer.unwrap_or(before);
+    // Prints the number of a call's answer. The river that it answers becomes the river; a refused call leaves it.
+    fn after(
+        mut self,
+        call: &str,
+        answer: std::result::Result<River, Refusal>,
+    ) -> Result<Day<'a, P>> {
+        println!(self.rt; "{call} {}", number_of(&answer))?;
+        self.river = answer.unwrap_or(self.river);
         Ok(self)
+    }
+
+    fn load(self, substance: u32, number: i64) -> Result<Day<'a, P>> {
+        let answer = transport::load_river(self.river, 1, substance, number);
+        self.after("load", answer)
     }
 
     fn load_frame(self, answer: std::result::Result<Amounts, Refusal>) -> Result<Day<'a, P>> {
@@ -88,39 +96,25 @@ impl<'a, P: Print> Day<'a, P> {
 
     // Ten minutes at 20 °C, for which the rate constants hold: all factors are 10^6 but light's. That is a half, I /
     // (I + KI) of document 000, appendix 2, where the light I is 500 W/m², as KI is in Table 8.
-    fn step(mut self) -> Result<Day<'a, P>> {
-        let set = self.set;
-        let before = self.river;
+    fn step(self) -> Result<Day<'a, P>> {
         let given = Conditions {
             seconds: 600,
             light: 500000,
             temperatures: Temperatures::all(1000000),
         };
-        let answer = step::step_river(set, before, given);
-        println!(self.rt; "step {}", number_of(&answer))?;
-        self.river = answer.unwrap_or(before);
-        Ok(self)
+        let answer = step::step_river(self.set, self.river, given);
+        self.after("step", answer)
     }
 
     // A twentieth of each cell passes down.
-    fn flow(mut self) -> Result<Day<'a, P>> {
-        let before = self.river;
-        let answer = transport::flow_river(before, 500);
-        println!(self.rt; "flow {}", number_of(&answer))?;
-        if let Ok(flowed) = answer {
-            self.river = flowed.river;
-        }
-        Ok(self)
+    fn flow(self) -> Result<Day<'a, P>> {
+        let answer = transport::flow_river(self.river, 500);
+        self.after("flow", answer.map(|flowed| flowed.river))
     }
 
-    fn air(mut self, cell: u32) -> Result<Day<'a, P>> {
-        let before = self.river;
-        let answer = transport::air_river(before, cell, AIR_CONSTANT, 600, SATURATION);
-        println!(self.rt; "air {}", number_of(&answer))?;
-        if let Ok(aired) = answer {
-            self.river = aired.river;
-        }
-        Ok(self)
+    fn air(self, cell: u32) -> Result<Day<'a, P>> {
+        let answer = transport::air_river(self.river, cell, AIR_CONSTANT, 600, SATURATION);
+        self.after("air", answer.map(|aired| aired.river))
     }
 
     fn ten_minutes(self) -> Result<Day<'a, P>> {
