@@ -1,5 +1,5 @@
 // New amounts: old amounts and the batches of every process times its entries.
-ghost use Rattle.std.specs.Prelude.{◌≡◌, ◌<◌, set};
+ghost use Rattle.std.specs.Prelude.{◌≡◌, ◌<◌};
 ghost use Rattle.numeric.specs.Table.{tab};
 ghost use Rattle.stoichiometry.specs.Rows.{processes};
 ghost use Rattle.stoichiometry.specs.Substances.{substances};
@@ -54,38 +54,31 @@ impl Terms<'_> {
         total
     }
 
-    // Writes it.
-    fn apply_one(&self, s: usize, changing: u32, after: &mut [i64; SUBSTANCES])
-        requires { (s < substances) × Digits changing s }
-        ensures { after.new ≡ set after.old s
-            (new_from self.now.amounts.now self.now.batches.now self.now.entries.now s) }
-    {
-        after[s] = self.amount_after(s, changing);
-    }
-
-    // Writes the amounts after, SS to N2: each is written out, so that each sum has its terms alone.
+    // The amounts after, SS to N2: each is written out, so that each sum has its terms alone.
     #[tactic(auto, using(crate::proofs::Unchanged::told), unfolding(numeric::specs::Check::every, rows::specs::Changing::digit, rows::specs::Changing::may_change, rows::specs::Changing::stands_at, rows::specs::Changing::changed_by, stoichiometry::specs::Rows::process_at, stoichiometry::specs::Rows::processes_of))]
-    pub(crate) fn apply_cell(&self, after: &mut [i64; SUBSTANCES])
-        ensures { after.new ≡ tab substances
+    pub(crate) fn amounts_after(&self) -> [i64; SUBSTANCES]
+        ensures { result ≡ tab substances
             (new_from self.now.amounts.now self.now.batches.now self.now.entries.now) }
     {
-        self.apply_one(SS, Changing::SS, after);
-        self.apply_one(SI, Changing::SI, after);
-        self.apply_one(NH4, Changing::NH4, after);
-        self.apply_one(NO2, Changing::NO2, after);
-        self.apply_one(NO3, Changing::NO3, after);
-        self.apply_one(HPO4, Changing::HPO4, after);
-        self.apply_one(O2, Changing::O2, after);
-        self.apply_one(HCO3, Changing::HCO3, after);
-        self.apply_one(H_PLUS, Changing::H_PLUS, after);
-        self.apply_one(XH, Changing::XH, after);
-        self.apply_one(XN1, Changing::XN1, after);
-        self.apply_one(XN2, Changing::XN2, after);
-        self.apply_one(XALG, Changing::XALG, after);
-        self.apply_one(XS, Changing::XS, after);
-        self.apply_one(XI, Changing::XI, after);
-        self.apply_one(XP, Changing::XP, after);
-        self.apply_one(H2O, Changing::H2O, after);
-        self.apply_one(N2, Changing::N2, after);
+        [
+            self.amount_after(SS, Changing::SS),
+            self.amount_after(SI, Changing::SI),
+            self.amount_after(NH4, Changing::NH4),
+            self.amount_after(NO2, Changing::NO2),
+            self.amount_after(NO3, Changing::NO3),
+            self.amount_after(HPO4, Changing::HPO4),
+            self.amount_after(O2, Changing::O2),
+            self.amount_after(HCO3, Changing::HCO3),
+            self.amount_after(H_PLUS, Changing::H_PLUS),
+            self.amount_after(XH, Changing::XH),
+            self.amount_after(XN1, Changing::XN1),
+            self.amount_after(XN2, Changing::XN2),
+            self.amount_after(XALG, Changing::XALG),
+            self.amount_after(XS, Changing::XS),
+            self.amount_after(XI, Changing::XI),
+            self.amount_after(XP, Changing::XP),
+            self.amount_after(H2O, Changing::H2O),
+            self.amount_after(N2, Changing::N2),
+        ]
     }
 }

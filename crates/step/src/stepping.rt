@@ -45,7 +45,7 @@ impl Rates<'_> {
             batches: &whole,
             entries: self.entries,
         };
-        terms.apply_cell(after);
+        *after = terms.amounts_after();
         Ok(())
     }
 }

@@ -47,7 +47,7 @@ pub returns-clause-amounts_after : goal.returns-clause-amounts_after
 returns-clause-amounts_after c =
     let rates = c.args.self.now in
     let whole = rw c.cell_extents-extents.ensures at c.split.ensures.whole_after in
-    c.apply_cell.ensures
+    c.amounts_after.ensures
     ∙ amounts_are rates.set rates.conditions c.args.cell.now.amounts.now c.args.carries.now _ whole _ rates.ready.rows
 
 pub returns-clause-rest_after : goal.returns-clause-rest_after
