@@ -8,7 +8,7 @@ ghost use Rattle.transport.specs.Air.{air_answer};
 
 use crate::air::Exchange;
 use crate::flow::{Part, move_amounts};
-use crate::load::{amount_at, set_amount, sum_fits};
+use crate::load::sum_fits;
 use numeric::in_range;
 use river::{AMOUNTS, River};
 use stoichiometry::{Refusal, SUBSTANCES, place};
@@ -51,13 +51,13 @@ pub fn load_river(mut river: River, cell: u32, substance: u32, added: i64) -> Re
     if !in_range(1, river.cells, cell) || !in_range(1, SUBSTANCES as u32, substance) {
         return Err(Refusal::Place);
     }
-    let c = (cell - 1) as usize;
     let s = (substance - 1) as usize;
-    let amount = amount_at(&river.amounts, c, s);
+    let at = (cell - 1) as usize * SUBSTANCES + s;
+    let amount = river.amounts[at];
     if !sum_fits(s, amount, added) {
         return Err(Refusal::Bounds);
     }
-    set_amount(&mut river.amounts, c, s, amount + added);
+    river.amounts[at] = amount + added;
     Ok(river)
 }
 
@@ -108,9 +108,9 @@ pub fn air_river(
     if exchange.is_wrong() {
         return Err(Refusal::Conditions);
     }
-    let c = (cell - 1) as usize;
-    let before = amount_at(&river.amounts, c, place::O2);
+    let at = (cell - 1) as usize * SUBSTANCES + place::O2;
+    let before = river.amounts[at];
     let amount = exchange.gain(before);
-    set_amount(&mut river.amounts, c, place::O2, before + amount);
+    river.amounts[at] = before + amount;
     Ok(Aired { river, amount })
 }
