@@ -1,6 +1,4 @@
 // The rivers that the calls are made on: eight cells with all organisms at work, of which no step below runs dry.
-ghost use Rattle.std.specs.Prelude.{◌<◌};
-
 use river::River;
 use std::array;
 use stoichiometry::{SUBSTANCES, place};
@@ -8,14 +6,13 @@ use stoichiometry::{SUBSTANCES, place};
 pub(crate) const RIVERS: usize = 8;
 
 // A number that tells place k of river r from other places and rivers.
-fn number_of(r: usize, k: usize) -> u32
-    ensures { result < 8000 }
-{
+fn number_of(r: usize, k: usize) -> u32 {
     (r % RIVERS * 1000 + k % 1000) as u32
 }
 
-fn amount(r: usize, k: usize) -> i64 {
-    let number = i64::from(number_of(r, k));
+// The amount at place k, and a carry, by that number.
+fn amount(k: usize, number: u32) -> i64 {
+    let number = i64::from(number);
     match k % SUBSTANCES {
         place::SS | place::SI | place::XH..=place::XI => 50000000 + number * 1000,
         place::H_PLUS | place::H2O => -1000000007 * number,
@@ -23,15 +20,15 @@ fn amount(r: usize, k: usize) -> i64 {
     }
 }
 
-fn carry(r: usize, k: usize) -> u32 {
-    number_of(r, k) * 7919 % 1000000
+fn carry(number: u32) -> u32 {
+    (u64::from(number) * 7919 % 1000000) as u32
 }
 
 fn river_of(r: usize) -> River {
     River {
         cells: River::CELLS_MOST as u32,
-        amounts: array::from_fn(|k| amount(r, k)),
-        carries: array::from_fn(|k| carry(r, k)),
+        amounts: array::from_fn(|k| amount(k, number_of(r, k))),
+        carries: array::from_fn(|k| carry(number_of(r, k))),
     }
 }
 
