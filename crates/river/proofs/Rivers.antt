@@ -331,11 +331,6 @@ module _ (r : River) (right : river_wrong r ≡ false) where
         same = to_z-of_z (fits_abs _ (omega arith));
       }
 
--- The same of a river and a cell that passed their tests.
-pub tested_known : (r : River) (cell s : ℕ) → true ≡ river_fits r.cells r.amounts r.carries → true ≡ cell_exists r cell
-    → s < substances → AmountKnown r cell s
-tested_known r cell s fits exists l = amount_known r (wrong_tested r true fits) cell s (sym exists) l
-
 -- What is in its bounds fits 64 bits.
 pub fits_machine : (s : ℕ) (x : ℤ) → s < substances → amount_fits s x ≡ true → SFits w64 x
 fits_machine s x l e = fits_abs x (omega (arith, fits_bound s x l e))

@@ -125,13 +125,11 @@ pub fn letter_by(oxygen: u64, ammonium: u64) -> Letter
 
 // The letter of a cell, 1 to the number of cells: L where the level of O2 is below 2,000,000 µg, N where that of NH4 is
 // above 1,000,000 µg, else a hyphen. Refuses with 4 and 5.
-#[tactic(auto, unfolding(crate::specs::Cells::letter_answer, crate::specs::Cells::letter_number, crate::specs::Cells::letter_of, crate::specs::Rivers::river_wrong, stoichiometry::specs::Levels::level_of, numeric::specs::Check::first_holding))]
+#[tactic(auto, using(crate::proofs::CheckedLaws::four_holds, crate::proofs::CheckedLaws::four_passed), unfolding(crate::specs::Cells::letter_answer, crate::specs::Cells::letter_number, crate::specs::Cells::letter_of, stoichiometry::specs::Levels::level_of, numeric::specs::Check::first_holding))]
 pub fn letter_of(river: River, cell: u32) -> Result<Letter, Refusal>
     ensures answer { result ≡ letter_answer river cell }
 {
-    if !river.fits() {
-        return Err(Refusal::River);
-    }
+    river.checked()?;
     if !in_range(1, river.cells, cell) {
         return Err(Refusal::Place);
     }
