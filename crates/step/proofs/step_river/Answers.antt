@@ -1,6 +1,6 @@
 -- `step_river` meets its contract: each test is a check of the definition, in its order (proofs/StepNumber.antt).
 -- No assumptions.
-use Rattle.std.proofs.Common.{sym}
+use Rattle.std.proofs.Common.{Ok, sym, ◌∙◌}
 use Rattle.std.proofs.lemmas.Result.{err_from_is_err_and}
 use Rattle.stoichiometry.proofs.SetNumber.{accepted-passes}
 use Rattle.river.proofs.CheckedLaws.{four_holds, four_passed}
@@ -87,4 +87,9 @@ returns c =
     let amounts = rw same at c.in_ok-step_cells.ensures.amounts_after in
     let carries = rw same at c.in_ok-step_cells.ensures.carries_after in
     let right = rw amounts at (sym c.if-not-amounts_fit.ensures.answer) in
-    record { answer = rw (c.in_ok-step_cells.ensures.cells_kept, amounts, carries) (sym (step-accepted a.set a.river a.conditions (passed (search)) few right)) }
+    let cells = c.in_ok-step_cells.ensures.cells_kept in
+    record {
+      answer =
+          (λ i. Ok (record { cells = cells i; amounts = amounts i; carries = carries i }))
+          ∙ sym (step-accepted a.set a.river a.conditions (passed (search)) few right);
+    }
