@@ -34,14 +34,7 @@ pub fn step_river(set: Set, river: River, conditions: Conditions) -> Result<Rive
         amounts: [0; AMOUNTS],
         carries: [0; CARRIES],
     };
-    step_cells(
-        set,
-        conditions,
-        &rows.entries,
-        &checked,
-        &mut after.amounts,
-        &mut after.carries,
-    )?;
+    step_cells(set, conditions, &rows.entries, &checked, &mut after)?;
     if !amounts_fit(river.cells, &after.amounts) {
         return Err(Refusal::Bounds);
     }

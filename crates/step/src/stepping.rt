@@ -13,30 +13,30 @@ use crate::cell::Cell;
 use crate::rates::Rates;
 use crate::split::{batches_fit, split};
 use kinetics::Conditions;
-use river::{AMOUNTS, CARRIES, Checked, River};
+use river::{Checked, River};
 use rows::batches_of;
 use stoichiometry::{ENTRIES, PROCESSES, Refusal, SUBSTANCES, Set};
 
 impl Rates<'_> {
-    // Writes the amounts and the carries after of one cell, which has these carries, if it passes check 7.
+    // Writes the carries after of one cell, which has these carries, and then, if it passes check 7, its amounts after.
     fn step_cell(
         &self,
         cell: &Cell,
         carries: &[u32; PROCESSES],
-        after: &mut [i64; SUBSTANCES],
-        rest: &mut [u32; PROCESSES],
+        amounts_after: &mut [i64; SUBSTANCES],
+        carries_after: &mut [u32; PROCESSES],
     ) -> Result<(), Refusal>
         requires { CarriesFit carries.now }
         ensures batches { result ≡ (if batches_few self.now.set self.now.conditions (amount_in cell.now.amounts.now)
             (carry_in carries.now) then Ok tt else Err Batches) }
-        ensures amounts_after { OnOk result (after.new ≡ tab substances
+        ensures amounts { OnOk result (amounts_after.new ≡ tab substances
             (new_amount self.now.set self.now.conditions (amount_in cell.now.amounts.now) (carry_in carries.now))) }
-        ensures rest_after { OnOk result (rest.new ≡ tab processes
+        ensures carries { OnOk result (carries_after.new ≡ tab processes
             (new_carry self.now.set self.now.conditions (amount_in cell.now.amounts.now) (carry_in carries.now))) }
     {
         let extents = self.cell_extents(cell);
         let mut whole = [0; PROCESSES];
-        split(&extents, carries, &mut whole, rest);
+        split(&extents, carries, &mut whole, carries_after);
         if !batches_fit(&whole) {
             return Err(Refusal::Batches);
         }
@@ -45,26 +45,27 @@ impl Rates<'_> {
             batches: &whole,
             entries: self.entries,
         };
-        *after = terms.amounts_after();
+        *amounts_after = terms.amounts_after();
         Ok(())
     }
 }
 
-// Writes the amounts and the carries after, cell by cell, with zeros beyond the river's last. Where a cell does not pass
-// check 7 it ends there: 7 in any cell comes before 8 in any. The cells' rows are copied out of arrays of their own: of
-// a part of the whole lists that is lent by `as_chunks_mut` nothing would be known after.
+// Writes the amounts and the carries after, cell by cell, with zeros beyond the river's last. Where a cell does not
+// pass check 7 it ends there: 7 in any cell comes before 8 in any. What each cell has after is written into arrays of
+// cells and copied at the end: of a part of the river's lists that is lent by `as_chunks_mut` nothing would be known
+// after. The river is lent: where both lists are answered a step takes 1.06 times as many instructions.
 pub(crate) fn step_cells(
     set: Set,
     conditions: Conditions,
     entries: &[i64; ENTRIES],
     checked: &Checked,
-    amounts: &mut [i64; AMOUNTS],
-    rest: &mut [u32; CARRIES],
+    after: &mut River,
 ) -> Result<(), Refusal>
     requires { StepReady set conditions entries.now }
     ensures batches { result ≡ (if batches_wrong set conditions checked.now.river.now then Err Batches else Ok tt) }
-    ensures amounts_after { OnOk result (amounts.new ≡ stepped_amounts set conditions checked.now.river.now) }
-    ensures rest_after { OnOk result (rest.new ≡ stepped_carries set conditions checked.now.river.now) }
+    ensures cells_kept { OnOk result (after.new.cells ≡ after.old.cells) }
+    ensures amounts_after { OnOk result (after.new.amounts ≡ stepped_amounts set conditions checked.now.river.now) }
+    ensures carries_after { OnOk result (after.new.carries ≡ stepped_carries set conditions checked.now.river.now) }
 {
     let rates = Rates {
         set,
@@ -75,13 +76,18 @@ pub(crate) fn step_cells(
     let river = checked.river;
     let (cells, _) = river.amounts.as_chunks::<SUBSTANCES>();
     let (carries, _) = river.carries.as_chunks::<PROCESSES>();
-    let mut after = [[0; SUBSTANCES]; River::CELLS_MOST];
-    let mut left = [[0; PROCESSES]; River::CELLS_MOST];
+    let mut amounts_after = [[0; SUBSTANCES]; River::CELLS_MOST];
+    let mut carries_after = [[0; PROCESSES]; River::CELLS_MOST];
     for c in 0..river.cells as usize {
         let cell = Cell { amounts: &cells[c] };
-        rates.step_cell(&cell, &carries[c], &mut after[c], &mut left[c])?;
+        rates.step_cell(
+            &cell,
+            &carries[c],
+            &mut amounts_after[c],
+            &mut carries_after[c],
+        )?;
     }
-    amounts.copy_from_slice(after.as_flattened());
-    rest.copy_from_slice(left.as_flattened());
+    after.amounts.copy_from_slice(amounts_after.as_flattened());
+    after.carries.copy_from_slice(carries_after.as_flattened());
     Ok(())
 }

@@ -1,17 +1,22 @@
 -- What the reading functions do at each byte: the blanks, the mark, a zero. `stuck` is a return at a byte that no
 -- decimal has there, `ended` the end of the text. The digits after them: DigitLoop.antt. No assumptions.
-use Prim.Native.Nat.{ℕ, ◌+◌, ◌≤◌, ◌<◌}
-use mathlib.Core.Bool.{Bool, true, false}
+use Prim.Native.Nat.{ℕ, zero, suc, ◌+◌, ◌≤◌, ◌<◌}
+use mathlib.Core.Bool.{Bool, true, false, not, cond}
 use mathlib.Core.List.{List, ◌++◌}
-use mathlib.Core.Path.{◌≡◌, refl, sym, ap, ◌∙◌}
+use mathlib.Core.Path.{◌≡◌, refl, sym, ap, ◌∙◌, subst}
+use native.Mathlib.Decide.{dec_lt}
 use native.Mathlib.Numerals.{add-one}
 use native.Mathlib.Omega.{arith}
-use borrow.Author.Tests.{ne_eqb, eqb-true, eqb-false}
-use lib.Dec.{eqb}
+use borrow.Author.Tests.{ne_eqb, eqb-true, eqb-false, lt-ltb, le-ltb}
+use lib.Dec.{eqb, ltb}
 use lib.IntN.{pos}
 use lib.ListN.{length, take, drop, get_or, take-append-drop}
 use lib.Seq.{take-suc, take_all}
-use Rattle.std.specs.Prelude.{Some, None}
+use Rattle.std.specs.Prelude.{Option, Some, None, unwrap_or}
+use Rattle.std.specs.List.{position_or_len, position_from}
+use Rattle.std.proofs.lemmas.Bool.{not-false, not-true}
+use Rattle.std.proofs.lemmas.Iterator.Adapters.{position_from-zero}
+use Rattle.std.proofs.lemmas.List.Sums.{prefix_len-le-length, fails_before_first, passes_at_first}
 use Rattle.text_reading.specs.Reading.{Seen, cols, lone_zero, bad, digit, other, next, run_on, start}
 use Rattle.text_reading.specs.Reading.{finish, value_of}
 use Rattle.text_reading.specs.Inner.Stages.{LeadingBlanks, DigitsFrom}
@@ -49,6 +54,40 @@ pub blanks_turn : (t : List ℕ) (i : ℕ) → i < length t → get_or t i 0 ≡
     → run_on start (take (i + 1) t) ≡ cols 32 0
 unfolding next
 blanks_turn t i l e h = run_turn t i (cols 32 0) l h ∙ ap (next (cols 32 0)) e
+
+-- The first place of another byte, or the length where blanks alone stand.
+module _ (t : List ℕ) where
+  abbrev is_other : ℕ → Bool
+  is_other b = not (eqb b 32)
+
+  abbrev p : ℕ
+  p = position_or_len is_other t
+
+  blanks_seen : (i : ℕ) → i ≤ p → run_on start (take i t) ≡ cols 32 0
+  unfolding run_on
+  blanks_seen zero h = refl
+  blanks_seen (suc i) h =
+      let within = prefix_len-le-length (λ b. not (is_other b)) t in
+      let blank : get_or t i 0 ≡ 32 = eqb-true _ 32 (not-false _ (fails_before_first is_other t i 0 (omega arith))) in
+      rw (← add-one i) (blanks_turn t i (omega arith) blank (blanks_seen i (omega arith)))
+
+  pub leading_blanks : (r : Option ℕ) → r ≡ position_from is_other 0 t → LeadingBlanks t (unwrap_or r (length t))
+  leading_blanks r e =
+      let within : p ≤ length t = prefix_len-le-length (λ b. not (is_other b)) t in
+      let first : LeadingBlanks t p =
+      record {
+        within = within;
+        seen = blanks_seen p (omega arith);
+        stop = λ l. eqb-false _ 32 (not-true _ (passes_at_first is_other t 0 l));
+      } in
+      rw (e ∙ sym (position_from-zero is_other t)) (at (dec_lt p (length t)) within first)
+    where
+      at : Dec (p < length t) → p ≤ length t → LeadingBlanks t p
+          → LeadingBlanks t (unwrap_or (cond (ltb p (length t)) (Some p) None) (length t))
+      at (yes l) w first = rw (lt-ltb p (length t) l) first
+      at (no g) w first =
+          let all : p ≡ length t = omega arith in
+          rw (le-ltb p (length t) (omega arith)) (subst (λ (n : ℕ). LeadingBlanks t n) all first)
 
 pub digits_from_minus : (t : List ℕ) (i : ℕ) → LeadingBlanks t i → i < length t → get_or t i 0 ≡ 45
     → DigitsFrom t (i + 1) 45

@@ -12,10 +12,5 @@ mod reading;
 pub fn read_decimal(columns: &[u8], lowest: i64, highest: i64) -> Option<i64>
     ensures answer { result ≡ parse lowest highest columns.now }
 {
-    let value = value_of(columns)?;
-    if lowest <= value && value <= highest {
-        Some(value)
-    } else {
-        None
-    }
+    value_of(columns).filter(|value| (lowest..=highest).contains(value))
 }

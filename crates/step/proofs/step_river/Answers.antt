@@ -1,6 +1,6 @@
 -- `step_river` meets its contract: each test is a check of the definition, in its order (proofs/StepNumber.antt).
 -- No assumptions.
-use Rattle.std.proofs.Common.{sym, ◌∙◌}
+use Rattle.std.proofs.Common.{Ok, sym, ◌∙◌}
 use Rattle.std.proofs.lemmas.Result.{err_from_is_err_and}
 use Rattle.stoichiometry.specs.declared.refusals.Refusal.TheVariants.{Batches}
 use Rattle.stoichiometry.proofs.RefusalLaws.{test_holds, test_passed}
@@ -87,6 +87,11 @@ returns c =
     let same = (four_passed a.river c.in_ok-checked.checked c.in_ok-checked.ensures.answer).1 in
     let few = (test_passed Batches tt _ tt (rw same at c.in_ok-step_cells.ensures.batches)).0 in
     let amounts = rw same at c.in_ok-step_cells.ensures.amounts_after in
-    let carries = rw same at c.in_ok-step_cells.ensures.rest_after in
+    let carries = rw same at c.in_ok-step_cells.ensures.carries_after in
     let right = rw amounts at (sym c.if-not-amounts_fit.ensures.answer) in
-    record { answer = rw (amounts, carries) (sym (step-accepted a.set a.river a.conditions (passed (search)) few right)) }
+    let cells = c.in_ok-step_cells.ensures.cells_kept in
+    record {
+      answer =
+          (λ i. Ok (record { cells = cells i; amounts = amounts i; carries = carries i }))
+          ∙ sym (step-accepted a.set a.river a.conditions (passed (search)) few right);
+    }

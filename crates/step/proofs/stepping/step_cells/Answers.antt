@@ -29,11 +29,11 @@ bounds-carries-c c =
     let long : length c.args.checked.now.river.now.carries ≡ most_cells * processes = search rules in
     omega (arith, c.as_chunks-2.ensures.front_len, long, (river-cells c.args.checked.now.river.now c.args.checked.now.right).1)
 
-pub bounds-after-c : goal.bounds-after-c
-bounds-after-c c = omega (arith, (river-cells c.args.checked.now.river.now c.args.checked.now.right).1)
+pub bounds-amounts_after-c : goal.bounds-amounts_after-c
+bounds-amounts_after-c c = omega (arith, (river-cells c.args.checked.now.river.now c.args.checked.now.right).1)
 
-pub bounds-left-c : goal.bounds-left-c
-bounds-left-c c = omega (arith, (river-cells c.args.checked.now.river.now c.args.checked.now.right).1)
+pub bounds-carries_after-c : goal.bounds-carries_after-c
+bounds-carries_after-c c = omega (arith, (river-cells c.args.checked.now.river.now c.args.checked.now.right).1)
 
 pub invariant_of-rates : goal.invariant_of-rates
 invariant_of-rates c =
@@ -99,10 +99,10 @@ loop-c-preserved c =
           (sym (few_at r right _ _ cells kept n h a.set a.conditions) ∙ few_passed _ ok.batches);
       stepped =
           made_next substances r.cells (pos 0) _ n _ _ inv.stepped h most
-          (ok.amounts_after ∙ amounts_at r right _ _ cells kept n h a.set a.conditions);
+          (ok.amounts ∙ amounts_at r right _ _ cells kept n h a.set a.conditions);
       kept =
           made_next processes r.cells 0 _ n _ _ inv.kept h most
-          (ok.rest_after ∙ carries_at r right _ _ cells kept n h a.set a.conditions);
+          (ok.carries ∙ carries_at r right _ _ cells kept n h a.set a.conditions);
     }
 
 pub returns-clause-batches : goal.returns-clause-batches
@@ -117,8 +117,8 @@ returns-clause-amounts_after c =
     c.copy_from_slice.ensures.after ∙ c.as_flattened.ensures.value
     ∙ made_done substances c.args.checked.now.river.now.cells (pos 0) _ c.loop-c.c _ (omega arith) c.loop-c.invariant.stepped
 
-pub returns-clause-rest_after : goal.returns-clause-rest_after
+pub returns-clause-carries_after : goal.returns-clause-carries_after
 unfolding stepped_carries
-returns-clause-rest_after c =
+returns-clause-carries_after c =
     c.copy_from_slice-2.ensures.after ∙ c.as_flattened-2.ensures.value
     ∙ made_done processes c.args.checked.now.river.now.cells 0 _ c.loop-c.c _ (omega arith) c.loop-c.invariant.kept

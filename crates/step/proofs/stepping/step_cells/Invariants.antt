@@ -17,8 +17,8 @@ invariant-loop-c l =
       passed : every l.c (λ c. batches_few l.fn.set l.fn.conditions (amount_at l.checked.river.now.amounts c) (carry_at l.checked.river.now.carries c)) ≡ true;
       stepped :
           RowsMade substances l.checked.river.now.cells (pos 0)
-          (λ c. new_amount l.fn.set l.fn.conditions (amount_at l.checked.river.now.amounts c) (carry_at l.checked.river.now.carries c)) l.c l.after;
+          (λ c. new_amount l.fn.set l.fn.conditions (amount_at l.checked.river.now.amounts c) (carry_at l.checked.river.now.carries c)) l.c l.amounts_after;
       kept :
           RowsMade processes l.checked.river.now.cells 0
-          (λ c. new_carry l.fn.set l.fn.conditions (amount_at l.checked.river.now.amounts c) (carry_at l.checked.river.now.carries c)) l.c l.left;
+          (λ c. new_carry l.fn.set l.fn.conditions (amount_at l.checked.river.now.amounts c) (carry_at l.checked.river.now.carries c)) l.c l.carries_after;
     }

@@ -43,15 +43,15 @@ returns-clause-batches c =
     (c.if-not-batches_fit.ensures.0 refl) in
     rw passed refl
 
-pub returns-clause-amounts_after : goal.returns-clause-amounts_after
-returns-clause-amounts_after c =
+pub returns-clause-amounts : goal.returns-clause-amounts
+returns-clause-amounts c =
     let rates = c.args.self.now in
     let whole = rw c.cell_extents-extents.ensures at c.split.ensures.whole_after in
     c.amounts_after.ensures
     ∙ amounts_are rates.set rates.conditions c.args.cell.now.amounts.now c.args.carries.now _ whole _ rates.ready.rows
 
-pub returns-clause-rest_after : goal.returns-clause-rest_after
-returns-clause-rest_after c =
+pub returns-clause-carries : goal.returns-clause-carries
+returns-clause-carries c =
     let rates = c.args.self.now in
     rw c.cell_extents-extents.ensures at c.split.ensures.rest_after
     ∙ rest_made rates.set rates.conditions c.args.cell.now.amounts.now c.args.carries.now
