@@ -52,8 +52,8 @@ impl Cell<'_> {
     }
 }
 
-// The numbers below 100 in two columns: with both digits, and with a blank for a first digit of 0. By tables, since with
-// computed digits a page takes a third longer.
+// The numbers below 100 in two columns: with both digits, and with a blank for a first digit of 0. By tables: with
+// computed digits a page takes a third longer, and with a test for the blank in place of a table 1.2 times as long.
 static PAIRS: [[u8; 2]; 100] = [
     *b"00", *b"01", *b"02", *b"03", *b"04", *b"05", *b"06", *b"07", *b"08", *b"09", *b"10", *b"11",
     *b"12", *b"13", *b"14", *b"15", *b"16", *b"17", *b"18", *b"19", *b"20", *b"21", *b"22", *b"23",
@@ -120,8 +120,9 @@ fn level_pairs(level: u32) -> [[u8; 2]; Page::LEVEL_COLUMNS / 2]
     [*b"  ", first, second, [b'.', tenth], pair(rest % 100)]
 }
 
-// The levels of a row over their columns. Here and in `write_rows` blocks are cut out by their place: a function with a
-// closure for such loops would be public, and ask that the closure may be called.
+// The levels of a row over their columns. In a loop: where all pairs are made first, by `map`, a page takes 1.9 times
+// as long, and by `from_fn` 1.2 times. Blocks are cut out by their place, here and in `write_rows`: nothing is known of
+// a text after `as_chunks_mut`, and a function with a closure for such loops would have to ask that it may be called.
 fn write_levels(text: &mut [u8], levels: &[u32; Page::LEVELS])
     requires { (length text.old ≡ 6 * level_columns) × LevelsWithin levels.now }
     ensures { text.new ≡ levels_text levels.now 6 }
