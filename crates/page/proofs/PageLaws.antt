@@ -3,34 +3,36 @@
 use Prim.Native.Nat.{ℕ, zero, suc, ◌+◌, ◌-◌, ◌*◌, ◌/◌, ◌≤◌, ◌<◌, zero-le}
 use mathlib.Core.Bool.{true, false, not}
 use mathlib.Core.List.{List, [], ◌∷◌, map}
-use mathlib.Core.Path.{◌≡◌, refl, sym, ap, ◌∙◌}
+use mathlib.Core.Path.{◌≡◌, refl, sym, ap, ap₂, ◌∙◌}
+use native.Mathlib.Nat.{zero-add, zero-mul}
 use native.Mathlib.Omega.{arith}
 use borrow.Author.Tests.{not-true}
 use lib.Dec.{lit<}
-use lib.IntN.{ℤ}
+use lib.IntN.{ℤ, pos}
 use lib.ListN.{length, take, drop, get_or}
 use lib.Seq.{get_or-take, get_or-drop}
 use Rattle.std.specs.Prelude.{Ok}
+use Rattle.std.specs.Simd.{first_chunks}
 use Rattle.numeric.specs.Check.{every, first_holding}
 use Rattle.numeric.proofs.CheckLaws.{every_at}
-use Rattle.stoichiometry.specs.Substances.{Substance, substances, place}
+use Rattle.stoichiometry.specs.Substances.{Substance, substances, nh4, o2, place}
 use Rattle.stoichiometry.specs.Levels.{level_of, most_level}
 use Rattle.stoichiometry.specs.Totals.{amount_at}
 use Rattle.stoichiometry.proofs.Contents.{place_lt}
 use Rattle.river.specs.declared.River.{River}
-use Rattle.river.specs.Rivers.{river_wrong, cell_exists}
+use Rattle.river.specs.Rivers.{most_cells, river_wrong, cell_exists}
 use Rattle.river.specs.declared.Letter.{Letter}
 use Rattle.river.specs.declared.Letter.TheVariants.{LowOxygen, HighAmmonium, Neither}
-use Rattle.river.specs.Cells.{byte, letter_of, letter_number, letter_answer}
+use Rattle.river.specs.Cells.{byte, letter_by, letter_of, letter_number, letter_answer}
 use Rattle.river.specs.Inner.Runs.{net_at}
 use Rattle.river.proofs.Bounds.{fits-level}
 use Rattle.river.proofs.Levels.{level_bound}
-use Rattle.river.proofs.Rivers.{river-cells, amount_fits_at, cell_bound}
+use Rattle.river.proofs.Rivers.{chunk_at, river-cells, amount_fits_at, cell_bound}
 use Rattle.text.specs.Blocks.{part}
 use Rattle.text.specs.Decimals.{columns, plain}
 use Rattle.text.proofs.BlockLaws.{blocks-length, part-blocks}
 use Rattle.page.specs.Pages.{row_bytes, grams, letter_columns, row, shown, levels_at, row_of, page_of, IsRow, shown_by}
-use Rattle.page.specs.Inner.Stages.{CellFits}
+use Rattle.page.specs.Inner.Stages.{cell_row, CellFits}
 use Rattle.page.proofs.Characters.{Character}
 use Rattle.page.proofs.LevelLaws.{grams_widest, grams-read}
 use Rattle.page.proofs.RowLaws.{row-length, row_is}
@@ -97,19 +99,48 @@ module _ (r : River) (right : river_wrong r ≡ false) (c : ℕ) (inside : c < r
           level_bound s (amount_at r.amounts c (place s)) (amount_fits_at r right c (place s) inside (place_lt s))
       each (s ∷ l) (suc i) = each l i
 
-  pub cell_fits_lem : CellFits r.amounts c
-  unfolding every
-  cell_fits_lem =
-      let most = (river-cells r right).1 in
-      record {
-        cell = omega arith;
-        small = λ s h.
-            let within : s < substances = omega arith in
-            let counted = every_at 7 s (λ k. not (net_at k)) refl (omega arith) in
-            (fits-level s (amount_at r.amounts c s) within (not-true (net_at s) counted)
-            (amount_fits_at r right c s inside within)).1;
-        levels = (six r.amounts c, levels_bound);
-      }
+  -- Its own amounts, as the code cuts them out.
+  module _ (cells : List (List ℤ)) (cut : cells ≡ first_chunks substances most_cells r.amounts) where
+    abbrev cell : List ℤ
+    cell = get_or cells c []
+
+    amount_is : (s : ℕ) → s < substances → amount_at cell 0 s ≡ amount_at r.amounts c s
+    amount_is s l =
+        rw (cut, zero-mul, zero-add)
+        (chunk_at substances most_cells r.amounts c s (pos 0) (omega (arith, (river-cells r right).1)) l)
+
+    level_is : (s : Substance) → level_of s (amount_at cell 0 (place s)) ≡ level_of s (amount_at r.amounts c (place s))
+    level_is s = ap (level_of s) (amount_is (place s) (place_lt s))
+
+    levels_are : levels_at cell 0 ≡ levels_at r.amounts c
+    unfolding levels_at
+    levels_are = each shown
+      where
+        each : (l : List Substance)
+            → map (λ s. level_of s (amount_at cell 0 (place s))) l ≡ map (λ s. level_of s (amount_at r.amounts c (place s))) l
+        each [] = refl
+        each (s ∷ l) = ap₂ ◌∷◌ (level_is s) (each l)
+
+    letter_is : letter_of cell 0 ≡ letter_of r.amounts c
+    unfolding letter_of
+    letter_is = ap₂ letter_by (level_is o2) (level_is nh4)
+
+    pub cell_row_is : cell_row c cell ≡ row_of r.amounts c
+    unfolding row_of
+    cell_row_is = ap₂ (row (c + 1)) (ap byte letter_is) levels_are
+
+    pub cell_fits_lem : CellFits cell
+    unfolding every
+    cell_fits_lem =
+        record {
+          small = λ s h.
+              let within : s < substances = omega arith in
+              let counted = every_at 7 s (λ k. not (net_at k)) refl (omega arith) in
+              rw (amount_is s within)
+              (fits-level s (amount_at r.amounts c s) within (not-true (net_at s) counted)
+              (amount_fits_at r right c s inside within)).1;
+          levels = rw levels_are (six r.amounts c, levels_bound);
+        }
 
   -- So each takes at most 8 of its 10 columns, and shows every digit down to the thousandth of a gram.
   pub levels-shown : (i : ℕ)

@@ -4,12 +4,13 @@ ghost use Rattle.std.specs.List.{flat_map};
 ghost use Rattle.stoichiometry.specs.Substances.{substances};
 ghost use Rattle.stoichiometry.specs.Levels.{in_microgram, most_level};
 ghost use Rattle.stoichiometry.specs.Totals.{amount_at};
+ghost use Rattle.river.specs.Rivers.{most_cells};
 ghost use Rattle.text.specs.Writes.{put};
-ghost use Rattle.page.specs.Pages.{level_columns, row_bytes, grams, row, levels_at, row_of, page_of};
-ghost use Rattle.page.specs.Inner.Stages.{levels_text, pair_of, justified_of, whole_of, CellFits, LevelsWithin};
+ghost use Rattle.page.specs.Pages.{level_columns, row_bytes, grams, row, levels_at, page_of};
+ghost use Rattle.page.specs.Inner.Stages.{levels_text, pair_of, justified_of, whole_of, cell_row, CellFits, LevelsWithin};
 
 use crate::Page;
-use river::{AMOUNTS, Checked, letter_by};
+use river::{Checked, letter_by};
 use stoichiometry::{Microgram, SUBSTANCES, place};
 
 // Where NH4 and O2, by which the letter goes, stand among the levels of a row.
@@ -17,29 +18,29 @@ const AMMONIUM: usize = 1;
 
 const OXYGEN: usize = 5;
 
-// Cell c of a river, counted from 0, whose levels are in their bounds. Not step's `Cell`, of which the bounds of all its
-// amounts are known: here it is those of the levels that a row has.
+// A cell of a river, of which the levels that a row has are known to be in their bounds; of step's `Cell` all amounts
+// are. Both have a private method `level`, which asks for one of the 18 places: in river it would be public, and no
+// public call asks anything.
 #[derive(Clone, Copy)]
 struct Cell<'a> {
-    amounts: &'a [i64; AMOUNTS],
-    c: usize,
-    ghost fits: { CellFits amounts.now c },
+    amounts: &'a [i64; SUBSTANCES],
+    ghost fits: { CellFits amounts.now },
 }
 
 impl Cell<'_> {
     // The level of the substance at place s, µg, rounded down.
     fn level(&self, s: usize, microgram: Microgram) -> u32
         requires place { s < substances }
-        requires within { nat_abs (amount_at self.now.amounts.now self.now.c s) / in_microgram microgram ≤ most_level }
-        ensures { result ≡ nat_abs (amount_at self.now.amounts.now self.now.c s) / in_microgram microgram }
+        requires within { nat_abs (amount_at self.now.amounts.now 0 s) / in_microgram microgram ≤ most_level }
+        ensures { result ≡ nat_abs (amount_at self.now.amounts.now 0 s) / in_microgram microgram }
     {
-        microgram.level(self.amounts[self.c * SUBSTANCES + s]) as u32
+        microgram.level(self.amounts[s]) as u32
     }
 
     // The levels that a row has, in its order.
     #[tactic(auto, unfolding(crate::specs::Pages::levels_at, stoichiometry::specs::Levels::level_of))]
     fn levels(&self) -> [u32; Page::LEVELS]
-        ensures { result ≡ levels_at self.now.amounts.now self.now.c }
+        ensures { result ≡ levels_at self.now.amounts.now 0 }
     {
         [
             self.level(place::SS, Microgram::Organic),
@@ -52,8 +53,8 @@ impl Cell<'_> {
     }
 }
 
-// The numbers below 100 in two columns: with both digits, and with a blank for a first digit of 0. By tables, since with
-// computed digits a page takes a third longer.
+// The numbers below 100 in two columns: with both digits, and with a blank for a first digit of 0. By tables: with
+// computed digits a page takes a third longer, and with a test for the blank in place of a table 1.2 times as long.
 static PAIRS: [[u8; 2]; 100] = [
     *b"00", *b"01", *b"02", *b"03", *b"04", *b"05", *b"06", *b"07", *b"08", *b"09", *b"10", *b"11",
     *b"12", *b"13", *b"14", *b"15", *b"16", *b"17", *b"18", *b"19", *b"20", *b"21", *b"22", *b"23",
@@ -113,15 +114,16 @@ fn level_pairs(level: u32) -> [[u8; 2]; Page::LEVEL_COLUMNS / 2]
 {
     let thousandths = level / 1000;
     let grams = thousandths / 1000;
-    // Not `thousandths % 1000`, with which a page takes longer.
+    // Not `thousandths % 1000`, with which a page takes 6 % more instructions.
     let rest = thousandths - grams * 1000;
     let [first, second] = whole(grams);
     let tenth = b'0' + (rest / 100) as u8;
     [*b"  ", first, second, [b'.', tenth], pair(rest % 100)]
 }
 
-// The levels of a row over their columns. Here and in `write_rows` blocks are cut out by their place: a function with a
-// closure for such loops would be public, and ask that the closure may be called.
+// The levels of a row over their columns. In a loop: where all pairs are made first, by `map`, a page takes 1.9 times
+// as long, and by `from_fn` 1.2 times. Blocks are cut out by their place, here and in `write_rows`: nothing is known of
+// a text after `as_chunks_mut`, and a function with a closure for such loops would have to ask that it may be called.
 fn write_levels(text: &mut [u8], levels: &[u32; Page::LEVELS])
     requires { (length text.old ≡ 6 * level_columns) × LevelsWithin levels.now }
     ensures { text.new ≡ levels_text levels.now 6 }
@@ -145,14 +147,14 @@ fn write_row(text: &mut [u8], cell: u8, letter: u8, levels: &[u32; Page::LEVELS]
     text[Page::LINE_FEED] = b'\n';
 }
 
-// The row of a cell over its bytes.
-fn write_cell(text: &mut [u8], cell: &Cell)
-    requires { length text.old ≡ row_bytes }
-    ensures { text.new ≡ row_of cell.now.amounts.now cell.now.c }
+// The row of a cell over its bytes; cells are counted from 0.
+fn write_cell(text: &mut [u8], c: usize, cell: &Cell)
+    requires { (length text.old ≡ row_bytes) × (c < most_cells) }
+    ensures { text.new ≡ cell_row c cell.now.amounts.now }
 {
     let levels = cell.levels();
     let letter = letter_by(u64::from(levels[OXYGEN]), u64::from(levels[AMMONIUM]));
-    write_row(text, (cell.c + 1) as u8, letter.byte(), &levels);
+    write_row(text, (c + 1) as u8, letter.byte(), &levels);
 }
 
 // The rows of a river's cells.
@@ -161,12 +163,10 @@ pub(crate) fn write_rows(out: &mut [u8], checked: &Checked)
     ensures { out.new ≡ put out.old 0 (page_of checked.now.river.now) }
 {
     let river = checked.river;
+    let (cells, _) = river.amounts.as_chunks::<SUBSTANCES>();
     for c in 0..river.cells as usize {
         let at = c * Page::ROW_BYTES;
-        let cell = Cell {
-            amounts: &river.amounts,
-            c,
-        };
-        write_cell(&mut out[at..at + Page::ROW_BYTES], &cell);
+        let cell = Cell { amounts: &cells[c] };
+        write_cell(&mut out[at..at + Page::ROW_BYTES], c, &cell);
     }
 }

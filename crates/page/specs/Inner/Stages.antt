@@ -1,13 +1,13 @@
 -- What the inner functions of the writer hand to each other. Laws: proofs/FigureLaws.antt. No assumptions.
-use Rattle.std.specs.Prelude.{ℕ, ◌+◌, ◌/◌, ◌%◌, ◌≤◌, ◌<◌, List, [], ◌∷◌, ◌++◌, ◌≡◌, ℤ, nat_abs, length, get_or}
+use Rattle.std.specs.Prelude.{ℕ, ◌+◌, ◌/◌, ◌%◌, ◌≤◌, List, [], ◌∷◌, ◌++◌, ◌≡◌, ℤ, nat_abs, length, get_or}
 use Rattle.std.specs.List.{flat_map}
 use Rattle.stoichiometry.specs.Substances.{most_grains, o2, place}
 use Rattle.stoichiometry.specs.Levels.{most_level}
 use Rattle.stoichiometry.specs.Totals.{amount_at}
-use Rattle.river.specs.Rivers.{most_cells}
+use Rattle.river.specs.Cells.{byte, letter_of}
 use Rattle.text.specs.Blocks.{blocks}
 use Rattle.text.specs.Decimals.{glyph}
-use Rattle.page.specs.Pages.{grams, levels_at}
+use Rattle.page.specs.Pages.{grams, row, levels_at}
 
 -- The first `count` of some levels, in their columns.
 abbrev pub levels_text : List ℕ → ℕ → List ℕ
@@ -36,9 +36,12 @@ figures_of level =
 abbrev pub LevelsWithin : List ℕ → Type 0
 LevelsWithin levels = (length levels ≡ 6) × ((i : ℕ) → get_or levels i 0 ≤ most_level)
 
--- Cell c is one of those that a river has room for, its amounts up to O2 are in the bounds of grains, and its levels are
--- in bounds.
-pub record CellFits (amounts : List ℤ) (c : ℕ) : Type 0 where
-  pub cell : c < most_cells
-  pub small : (s : ℕ) → s ≤ place o2 → nat_abs (amount_at amounts c s) ≤ most_grains
-  pub levels : LevelsWithin (levels_at amounts c)
+-- Of a cell's own amounts, which are those of cell 0 of a list: the ones up to O2 are in the bounds of grains, and the
+-- levels in theirs.
+pub record CellFits (cell : List ℤ) : Type 0 where
+  pub small : (s : ℕ) → s ≤ place o2 → nat_abs (amount_at cell 0 s) ≤ most_grains
+  pub levels : LevelsWithin (levels_at cell 0)
+
+-- The row of cell c of a river, which has these amounts.
+abbrev pub cell_row : ℕ → List ℤ → List ℕ
+cell_row c cell = row (c + 1) (byte (letter_of cell 0)) (levels_at cell 0)

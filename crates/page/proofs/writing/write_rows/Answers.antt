@@ -1,10 +1,13 @@
 -- `write_rows` meets its contract: one row more. No assumptions.
-use Rattle.std.proofs.Common.{◌≡◌, ℕ, ◌+◌, ◌*◌, ◌≤◌, ap, ◌∙◌, arith, length, length-take, length-drop}
+use Rattle.std.proofs.Common.{◌≡◌, ℕ, rules, ◌+◌, ◌*◌, ◌≤◌, ap, ◌∙◌, arith, length, length-take, length-drop}
+use Rattle.stoichiometry.specs.Substances.{substances}
+use Rattle.river.specs.Rivers.{most_cells}
+use Rattle.river.proofs.Rivers.{river-cells}
 use Rattle.text.specs.Blocks.{blocks}
 use Rattle.text.proofs.BlockLaws.{no_block, next_block}
 use Rattle.text.specs.Writes.{put}
 use Rattle.page.specs.Pages.{row_bytes, row_of, page_of}
-use Rattle.page.proofs.PageLaws.{row_of-length, cell_fits_lem}
+use Rattle.page.proofs.PageLaws.{row_of-length, cell_row_is, cell_fits_lem}
 use Rattle.page.proofs.writing.write_rows.Goals as goal
 
 pub loop-c-init : goal.loop-c-init
@@ -13,18 +16,33 @@ loop-c-init c = no_block row_bytes _ (row_of-length c.args.checked.now.river.now
 pub loop-c-preserved : goal.loop-c-preserved
 loop-c-preserved c =
     let n = c.loop-c.c in
+    let r = c.args.checked.now.river.now in
+    let long : length r.amounts ≡ most_cells * substances = search rules in
     let room : n * row_bytes + row_bytes ≤ length c.args.out.now = omega arith in
     next_block row_bytes _ (row_of-length c.args.checked.now.river.now.amounts) c.args.out.now c.loop-c.out _ n _ (omega arith)
-    room c.loop-c.invariant c.write_cell.ensures
+    room c.loop-c.invariant
+    (c.write_cell.ensures ∙ cell_row_is r c.args.checked.now.right n c.loop-c-test.true _ (rw long at c.as_chunks.ensures.front))
+
+pub bounds-cells-c : goal.bounds-cells-c
+bounds-cells-c c =
+    let long : length c.args.checked.now.river.now.amounts ≡ most_cells * substances = search rules in
+    omega (arith, c.as_chunks.ensures.front_len, long, (river-cells c.args.checked.now.river.now c.args.checked.now.right).1)
 
 pub invariant_of-cell : goal.invariant_of-cell
-invariant_of-cell c = record { fits = cell_fits_lem c.args.checked.now.river.now c.args.checked.now.right c.loop-c.c c.loop-c-test.true }
+invariant_of-cell c =
+    let r = c.args.checked.now.river.now in
+    let long : length r.amounts ≡ most_cells * substances = search rules in
+    record {
+      fits =
+          cell_fits_lem r c.args.checked.now.right c.loop-c.c c.loop-c-test.true _ (rw long at c.as_chunks.ensures.front);
+    }
 
 pub write_cell-requires : goal.write_cell-requires
 write_cell-requires c =
     let n = c.loop-c.c in
     let room : n * row_bytes + row_bytes ≤ length c.loop-c.out = omega arith in
-    simp (length-take, length-drop) (omega arith)
+    let most = (river-cells c.args.checked.now.river.now c.args.checked.now.right).1 in
+    (simp (length-take, length-drop) (omega arith), omega arith)
 
 pub returns : goal.returns
 unfolding page_of
