@@ -27,7 +27,8 @@ use Rattle.river.specs.Cells.{byte, letter_by, letter_of, letter_number, letter_
 use Rattle.river.specs.Inner.Runs.{net_at}
 use Rattle.river.proofs.Bounds.{fits-level}
 use Rattle.river.proofs.Levels.{level_bound}
-use Rattle.river.proofs.Rivers.{chunk_at, river-cells, amount_fits_at, cell_bound}
+use Rattle.numeric.proofs.ChunkLaws.{chunk_at}
+use Rattle.river.proofs.Rivers.{river-cells, amount_fits_at, cell_bound}
 use Rattle.text.specs.Blocks.{part}
 use Rattle.text.specs.Decimals.{columns, plain}
 use Rattle.text.proofs.BlockLaws.{blocks-length, part-blocks}
