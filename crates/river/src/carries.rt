@@ -9,7 +9,8 @@ use stoichiometry::PROCESSES;
 fn all_below_batch(carries: &[u32]) -> bool
     ensures { IsTrue result ↔ EachIndex carries.now (λ k. slice_index carries.now k ≤ most_carry) }
 {
-    // All are looked at, since nearly every river passes: without a way out of the loop four are tested at a time.
+    // All are looked at, since nearly every river passes: without a way out of the loop four are tested at a time. With
+    // `all` a load or an air takes 1.33 times the instructions, and a flow 1.09.
     let mut right = true;
     for carry in carries {
         right &= *carry <= River::CARRY_MOST;
