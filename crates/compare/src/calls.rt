@@ -113,10 +113,7 @@ fn letter(line: &Line, river: River) -> Answer {
 
 // The text of a call that reads one: the river's record, unless it was changed.
 fn text_of(text: Option<Text>, river: &River) -> Text {
-    match text {
-        Some(text) => text,
-        None => Text::of(*river),
-    }
+    text.unwrap_or_else(|| Text::of(*river))
 }
 
 // The call of a line. The river that it answers, if it answers one, takes the place of the one that it gets.

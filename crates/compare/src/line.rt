@@ -11,7 +11,7 @@ const ROOM: usize = 96;
 pub(crate) struct Line {
     pub letter: Option<u8>,
     numbers: ArrayVec<u64, ROOM>,
-    // A minus stands in the line.
+    // A minus stands in the line. One for all its numbers, since at most one of them, an amount, can be below zero.
     negative: bool,
 }
 
@@ -38,7 +38,8 @@ impl Line {
         let _ = self.numbers.try_push(0);
     }
 
-    // From 19 digits on a number stays as it is.
+    // From 19 digits on a number stays as it is. Each program has such a function, with an end of its own: a public one
+    // for three would need a contract, and edits that it refuses, for one expression.
     fn take_digit(&mut self, digit: u8) {
         if let Some(number) = self.numbers.last_mut() {
             if *number < 1000000000000000000 {

@@ -1,5 +1,5 @@
-// How fast the processes run: levels, factors, products and extents of one cell; the conditions that a step is given,
-// and their check.
+// The conditions that a step is given, and their check. How fast the processes run under them, by levels, factors,
+// products and extents of one cell, stands in definitions alone, which step's code meets.
 #![tactic(auto)]
 
 ghost use Rattle.std.specs.Prelude.{◌≡◌};

@@ -117,8 +117,10 @@ module _ (r : River) (right : river_wrong r ≡ false) (c : ℕ) (inside : c < r
     unfolding levels_at
     levels_are = each shown
       where
-        each : (l : List Substance)
-            → map (λ s. level_of s (amount_at cell 0 (place s))) l ≡ map (λ s. level_of s (amount_at r.amounts c (place s))) l
+        of : List ℤ → ℕ → Substance → ℕ
+        of amounts k s = level_of s (amount_at amounts k (place s))
+
+        each : (l : List Substance) → map (of cell 0) l ≡ map (of r.amounts c) l
         each [] = refl
         each (s ∷ l) = ap₂ ◌∷◌ (level_is s) (each l)
 

@@ -7,7 +7,8 @@ ghost use Rattle.stoichiometry.specs.Totals.{amount_at};
 ghost use Rattle.river.specs.Rivers.{most_cells};
 ghost use Rattle.text.specs.Writes.{put};
 ghost use Rattle.page.specs.Pages.{level_columns, row_bytes, grams, row, levels_at, page_of};
-ghost use Rattle.page.specs.Inner.Stages.{levels_text, pair_of, justified_of, whole_of, cell_row, CellFits, LevelsWithin};
+ghost use Rattle.page.specs.Inner.Stages.{levels_text, pair_of, justified_of, whole_of, cell_row};
+ghost use Rattle.page.specs.Inner.Stages.{CellFits, LevelsWithin};
 
 use crate::Page;
 use river::{Checked, letter_by};

@@ -50,7 +50,7 @@ impl Checksum {
 
     // With the amounts of one substance in all cells.
     pub(crate) fn with_amounts(self, amounts: &[i64; AMOUNTS]) -> Checksum {
-        let k = (self.turn % 18) as usize;
+        let k = (self.turn % SUBSTANCES as u64) as usize;
         let mut with_all = self;
         for cell in amounts.chunks_exact(SUBSTANCES) {
             with_all = with_all.with_signed(cell[k]);
@@ -60,7 +60,7 @@ impl Checksum {
 
     // With one carry.
     fn with_carry(self, carries: &[u32; CARRIES]) -> Checksum {
-        let k = (self.turn % 136) as usize;
+        let k = (self.turn % CARRIES as u64) as usize;
         self.with(u64::from(carries[k]))
     }
 

@@ -11,7 +11,7 @@ use crate::sets::conditions_of;
 use page::Page;
 use record::Record;
 use river::River;
-use stoichiometry::Set;
+use stoichiometry::{ENTRIES, SUBSTANCES, Set};
 
 pub(crate) fn step_turn(set: Set, river: River, before: Checksum) -> Checksum {
     let answer = step::step_river(set, river, conditions_of(before.turn));
@@ -56,7 +56,7 @@ pub(crate) fn load_turn(river: River, before: Checksum) -> Checksum {
     let answer = transport::load_river(
         river,
         (1 + turn / 8 % 8) as u32,
-        (1 + turn % 18) as u32,
+        (1 + turn % SUBSTANCES as u64) as u32,
         load_of(turn),
     );
     let with_number = before.with_number_of(&answer);
@@ -66,14 +66,17 @@ pub(crate) fn load_turn(river: River, before: Checksum) -> Checksum {
     }
 }
 
+// A turn takes an entry of each half of the rows.
+const HALF: usize = ENTRIES / 2;
+
 pub(crate) fn rows_turn(set: Set, before: Checksum) -> Checksum {
     let answer = rows::rows_of(set);
-    let entry = (before.turn % 153) as usize;
+    let entry = (before.turn % HALF as u64) as usize;
     let with_number = before.with_number_of(&answer);
     match &answer {
         Ok(rows) => with_number
             .with_signed(rows.entries[entry])
-            .with_signed(rows.entries[entry + 153]),
+            .with_signed(rows.entries[entry + HALF]),
         Err(_) => with_number.with_signed(0).with_signed(0),
     }
 }

@@ -50,7 +50,7 @@ impl Book {
         if let Some(place) = (cell as usize).checked_sub(1)
             && let Some(held) = self.cells.get_mut(place)
         {
-            *held = held.plus(what);
+            *held = *held + what;
         }
     }
 
@@ -58,7 +58,7 @@ impl Book {
     pub(crate) fn enter_number(&mut self, set: Set, cell: u32, substance: u32, number: i64) {
         if number < 0 {
             let lost = contents_of(set, substance, number.saturating_neg());
-            self.enter(cell, lost.negated());
+            self.enter(cell, -lost);
         } else {
             self.enter(cell, contents_of(set, substance, number));
         }
@@ -68,7 +68,7 @@ impl Book {
     pub(crate) fn enter_flow(&mut self, set: Set, left: [i64; AMOUNTS]) {
         for cell in 1..=CELLS as u32 {
             let what = contents(set, left, cell);
-            self.enter(cell, what.negated());
+            self.enter(cell, -what);
             self.enter(cell + 1, what);
         }
     }

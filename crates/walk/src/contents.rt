@@ -1,5 +1,6 @@
 // What a cell holds: six totals.
 use std::fmt;
+use std::ops::{Add, Neg};
 use totals::Totals;
 
 const TOTALS: usize = 6;
@@ -10,16 +11,24 @@ pub(crate) struct Contents([i64; TOTALS]);
 
 impl Contents {
     pub(crate) const NONE: Contents = Contents([0; TOTALS]);
+}
 
-    pub(crate) fn plus(self, other: Contents) -> Contents {
+impl Add for Contents {
+    type Output = Contents;
+
+    fn add(self, other: Contents) -> Contents {
         let mut sum = self.0;
         for (total, more) in sum.iter_mut().zip(&other.0) {
             *total = total.saturating_add(*more);
         }
         Contents(sum)
     }
+}
 
-    pub(crate) fn negated(self) -> Contents {
+impl Neg for Contents {
+    type Output = Contents;
+
+    fn neg(self) -> Contents {
         Contents(self.0.map(|total| total.saturating_neg()))
     }
 }

@@ -19,23 +19,22 @@ loop-c-preserved c =
     let r = c.args.checked.now.river.now in
     let long : length r.amounts ≡ most_cells * substances = search rules in
     let room : n * row_bytes + row_bytes ≤ length c.args.out.now = omega arith in
-    next_block row_bytes _ (row_of-length c.args.checked.now.river.now.amounts) c.args.out.now c.loop-c.out _ n _ (omega arith)
-    room c.loop-c.invariant
-    (c.write_cell.ensures ∙ cell_row_is r c.args.checked.now.right n c.loop-c-test.true _ (rw long at c.as_chunks.ensures.front))
+    let cut = rw long at c.as_chunks.ensures.front in
+    next_block row_bytes _ (row_of-length r.amounts) c.args.out.now c.loop-c.out _ n _ (omega arith) room c.loop-c.invariant
+    (c.write_cell.ensures ∙ cell_row_is r c.args.checked.now.right n c.loop-c-test.true _ cut)
 
 pub bounds-cells-c : goal.bounds-cells-c
 bounds-cells-c c =
-    let long : length c.args.checked.now.river.now.amounts ≡ most_cells * substances = search rules in
-    omega (arith, c.as_chunks.ensures.front_len, long, (river-cells c.args.checked.now.river.now c.args.checked.now.right).1)
+    let r = c.args.checked.now.river.now in
+    let long : length r.amounts ≡ most_cells * substances = search rules in
+    omega (arith, c.as_chunks.ensures.front_len, long, (river-cells r c.args.checked.now.right).1)
 
 pub invariant_of-cell : goal.invariant_of-cell
 invariant_of-cell c =
     let r = c.args.checked.now.river.now in
     let long : length r.amounts ≡ most_cells * substances = search rules in
-    record {
-      fits =
-          cell_fits_lem r c.args.checked.now.right c.loop-c.c c.loop-c-test.true _ (rw long at c.as_chunks.ensures.front);
-    }
+    let cut = rw long at c.as_chunks.ensures.front in
+    record { fits = cell_fits_lem r c.args.checked.now.right c.loop-c.c c.loop-c-test.true _ cut }
 
 pub write_cell-requires : goal.write_cell-requires
 write_cell-requires c =
