@@ -1,7 +1,6 @@
 // Inner functions of the strict reader, in the order of the columns: blanks, a mark, digits. One pass over the bytes; a
 // text that is no decimal is refused at the byte that shows it. The public call is at the crate's root.
-ghost use Rattle.std.specs.List.{position_from};
-ghost use Rattle.std.specs.Prelude.{◌≡◌, ◌==◌, not, ◌+◌, ◌-◌, ◌*◌, ◌≤◌, get_or};
+ghost use Rattle.std.specs.Prelude.{◌≡◌, ◌+◌, ◌-◌, ◌*◌, ◌≤◌, get_or};
 ghost use Rattle.text_reading.specs.Reading.{is_digit, signed, finish, value_of};
 ghost use Rattle.text_reading.specs.Inner.Digits.{digits_seen};
 ghost use Rattle.text_reading.specs.Inner.Stages.{LeadingBlanks, DigitsFrom};
@@ -57,19 +56,14 @@ fn pair(a: u8, b: u8) -> u64
     digit(a) * 10 + digit(b)
 }
 
-// The place of the first byte that is no blank.
-fn first_other(columns: &[u8]) -> Option<usize>
-    ensures { result ≡ position_from (λ b. not (b == 32)) 0 columns.now }
-{
-    columns.iter().position(|b| *b != b' ')
-}
-
-// How many blanks the columns begin with. The place is a function of its own: of a `position` whose answer goes on into
-// `unwrap_or` the check does not find what it is.
+// How many blanks the columns begin with.
 fn blanks(columns: &[u8]) -> usize
     ensures { LeadingBlanks columns.now result }
 {
-    first_other(columns).unwrap_or(columns.len())
+    columns
+        .iter()
+        .position(|b| *b != b' ')
+        .unwrap_or(columns.len())
 }
 
 // The value of columns whose blanks and mark end at `start`, where no zero stands: two digits a turn, then the last.
