@@ -12,13 +12,13 @@ use Rattle.std.proofs.lemmas.List.{take-take, drop-take, drop-drop}
 use lib.Signed.{◌≤ℤ◌}
 use Rattle.std.specs.Prelude.{ℤ, Option, Some, is_some, unwrap_or}
 use mir.Facts.{to_z-of_z}
-use Rattle.numeric.specs.Table.{run}
 use Rattle.numeric.proofs.Bounds.{abs_from, abs_of_nonneg, fits_abs}
 use Rattle.numeric.proofs.CheckLaws.{every_eq}
 use Rattle.numeric.proofs.Comparison.{le_z_true}
-use Rattle.numeric.proofs.Filling.{run_more}
+use Rattle.numeric.proofs.Filling.{Filled, fill_more}
 use Rattle.numeric.proofs.Machine.{kept}
 use Rattle.stoichiometry.specs.Substances.{substances, most_net}
+use Rattle.stoichiometry.specs.Rows.{processes}
 use Rattle.river.specs.Rivers.{most_carry}
 use Rattle.std.specs.Simd.{first_chunks}
 use Rattle.text.specs.Blocks.{part}
@@ -109,23 +109,23 @@ module _ (t : List ℕ) (c k : ℕ) where
       to_z-of_z (fits_abs z (omega (arith, small, ap nat_abs same))) ∙ sym same
 
 -- A line more of a cell, whose first lines are stored as amounts and those past them as carries.
-module _ {A : Type 0} (l m : List A) (b k : ℕ) (f : ℕ → A) where
-  pub amount_stored : k < substances → m ≡ run l b (k - (k - substances)) f → (v : A) → v ≡ f k
-      → set m (b + k) v ≡ run l b (k + 1 - (k + 1 - substances)) f
+module _ {A : Type 0} (m : List A) (k : ℕ) (f : ℕ → A) where
+  pub amount_stored : k < substances → Filled substances (k - (k - substances)) f m → (v : A) → v ≡ f k
+      → Filled substances (k + 1 - (k + 1 - substances)) f (set m k v)
   amount_stored h e v q =
       let before : k - (k - substances) ≡ k = omega arith in
       let after : k + 1 - (k + 1 - substances) ≡ k + 1 = omega arith in
-      rw after (run_more l b k f m v (rw before at e) q)
+      rw after (fill_more substances k f m v (rw before at e) h q)
 
-  pub amounts_kept : substances ≤ k → m ≡ run l b (k - (k - substances)) f
-      → m ≡ run l b (k + 1 - (k + 1 - substances)) f
+  pub amounts_kept : substances ≤ k → Filled substances (k - (k - substances)) f m
+      → Filled substances (k + 1 - (k + 1 - substances)) f m
   amounts_kept h e = let same : k - (k - substances) ≡ k + 1 - (k + 1 - substances) = omega arith in rw same at e
 
-  pub carry_stored : substances ≤ k → m ≡ run l b (k - substances) f → (v : A) → v ≡ f (k - substances)
-      → set m (b + (k - substances)) v ≡ run l b (k + 1 - substances) f
-  carry_stored h e v q =
+  pub carry_stored : substances ≤ k → k < lines → Filled processes (k - substances) f m → (v : A)
+      → v ≡ f (k - substances) → Filled processes (k + 1 - substances) f (set m (k - substances) v)
+  carry_stored h l e v q =
       let after : k + 1 - substances ≡ k - substances + 1 = omega arith in
-      rw after (run_more l b (k - substances) f m v e q)
+      rw after (fill_more processes (k - substances) f m v e (omega arith) q)
 
-  pub carries_kept : k < substances → m ≡ run l b (k - substances) f → m ≡ run l b (k + 1 - substances) f
+  pub carries_kept : k < substances → Filled processes (k - substances) f m → Filled processes (k + 1 - substances) f m
   carries_kept h e = let same : k - substances ≡ k + 1 - substances = omega arith in rw same at e

@@ -60,8 +60,5 @@ pub fn number_of_cell(text: &[u8], cell: u32) -> u32
 pub fn lines_of_cell(text: &[u8], cell: u32) -> &[u8]
     ensures answer { result.now ≡ cell_lines text.now cell }
 {
-    match part_of(text, cell) {
-        Ok(part) => part,
-        Err(_) => &text[0..0],
-    }
+    part_of(text, cell).unwrap_or(&text[0..0])
 }

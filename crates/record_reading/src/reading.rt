@@ -7,7 +7,7 @@ ghost use Rattle.text.specs.Blocks.{part};
 ghost use Rattle.record.specs.Lines.{front, lines, cell_bytes};
 ghost use Rattle.record_reading.specs.Reading.{same_bytes, line_value, lowest_on, highest_on};
 ghost use Rattle.record_reading.specs.Reading.{cells_in, lines_right, amounts_in, carries_in};
-ghost use Rattle.record_reading.specs.Inner.Stages.{cell_found, amounts_stored, carries_stored};
+ghost use Rattle.record_reading.specs.Inner.Stages.{cell_found, amounts_found, carries_found};
 
 use record::Record;
 use river::River;
@@ -55,44 +55,50 @@ fn line_value(line: &[u8; Record::LINE_BYTES], cell: u32, k: usize) -> Option<i6
     }
 }
 
-// The amounts and then the carries of cell c, counted from 0, if each of its lines has its value. One loop over all
-// lines, so that a line is read from one place only and the compiler sets the reading of it into the loop. The cell is
-// told by its number, and its amounts and carries by their places: of chunks that `as_chunks_mut` lends of the river's
-// lists nothing would be known after.
-fn read_cell(text: &[u8; Record::CELL_BYTES], c: usize, river: &mut River) -> Option<()>
+// Writes the amounts and then the carries of cell c, counted from 0, if each of its lines has its value. One loop over
+// all lines, so that a line is read from one place only and the compiler sets the reading of it into the loop.
+fn read_cell(
+    text: &[u8; Record::CELL_BYTES],
+    c: usize,
+    amounts: &mut [i64; SUBSTANCES],
+    carries: &mut [u32; PROCESSES],
+) -> Option<()>
     requires { c < most_cells }
     ensures value { is_some result ≡ cell_found text.now c }
-    ensures cells_kept { OnSome result (river.new.cells ≡ river.old.cells) }
-    ensures amounts_after { OnSome result (river.new.amounts ≡ amounts_stored text.now c river.old.amounts) }
-    ensures carries_after { OnSome result (river.new.carries ≡ carries_stored text.now c river.old.carries) }
+    ensures amounts_after { OnSome result (amounts.new ≡ amounts_found text.now c) }
+    ensures carries_after { OnSome result (carries.new ≡ carries_found text.now c) }
 {
     let cell = (c + 1) as u32;
     let (lines, _) = text.as_chunks::<{ Record::LINE_BYTES }>();
     for (k, line) in lines.iter().enumerate() {
         let value = line_value(line, cell, k)?;
         if k < SUBSTANCES {
-            river.amounts[c * SUBSTANCES + k] = value;
+            amounts[k] = value;
         } else {
-            river.carries[c * PROCESSES + (k - SUBSTANCES)] = value as u32;
+            carries[k - SUBSTANCES] = value as u32;
         }
     }
     Some(())
 }
 
-// The amounts and carries of all cells of the text, if each line has its value.
+// Writes the amounts and carries of all cells of the text, if each line has its value, with zeros beyond the last cell.
+// They are read into arrays of cells and copied at the end: of a part of the river's lists that is lent by
+// `as_chunks_mut` nothing would be known after.
 pub(crate) fn read_cells(text: &[u8], river: &mut River) -> Option<()>
-    requires cells_in_text { cells_in text.now ≤ most_cells }
-    requires no_amounts { river.old.amounts ≡ replicate (most_cells * substances) (pos 0) }
-    requires no_carries { river.old.carries ≡ replicate (most_cells * processes) 0 }
+    requires { cells_in text.now ≤ most_cells }
     ensures value { is_some result ≡ lines_right (cells_in text.now) text.now }
     ensures cells_kept { OnSome result (river.new.cells ≡ river.old.cells) }
     ensures amounts_after { OnSome result (river.new.amounts ≡ amounts_in (cells_in text.now) text.now) }
     ensures carries_after { OnSome result (river.new.carries ≡ carries_in (cells_in text.now) text.now) }
 {
     let (cells, _) = text.as_chunks::<{ Record::CELL_BYTES }>();
+    let mut amounts = [[0; SUBSTANCES]; River::CELLS_MOST];
+    let mut carries = [[0; PROCESSES]; River::CELLS_MOST];
     for (c, cell) in cells.iter().enumerate() {
-        read_cell(cell, c, river)?;
+        read_cell(cell, c, &mut amounts[c], &mut carries[c])?;
     }
+    river.amounts.copy_from_slice(amounts.as_flattened());
+    river.carries.copy_from_slice(carries.as_flattened());
     Some(())
 }
 

@@ -6,16 +6,18 @@ use mathlib.Core.Bool.{Bool, true, false, cond, ◌&&◌, true≢false}
 use mathlib.Core.List.{List, [], ◌∷◌, ◌++◌, append_assoc, append-nil}
 use mathlib.Core.Logic.{◌⊎◌, inl, inr}
 use mathlib.Core.Path.{◌≡◌, refl, sym, ap, ap₂, ◌∙◌, subst}
+use native.Mathlib.Decide.{dec_lt}
 use native.Mathlib.Nat.{one-le-pow, pow-suc}
 use native.Mathlib.Numerals.{add-one}
 use native.Mathlib.Omega.{arith}
-use borrow.Author.Tests.{lt-ltb, le-ltb, le-leb, ne_eqb, eqb-true, eqb-false, leb-true, ltb-true, ltb-false}
+use borrow.Author.Tests.{lt-ltb, le-ltb, le-leb, lt-leb, ne_eqb, eqb-true, eqb-false, leb-true, ltb-true, ltb-false}
 use lib.Dec.{leb, ltb, eqb}
 use lib.IntN.{ℤ, pos, negsuc, neg_ℤ, nat_abs}
 use lib.ListN.{length, length-append}
 use lib.Signed.{le_z}
 use Rattle.numeric.proofs.Bounds.{abs_neg}
 use Rattle.numeric.proofs.CheckLaws.{and_left, and_right}
+use Rattle.std.specs.Char.{is_ascii_digit}
 use Rattle.std.specs.Prelude.{Option, Some, None, option_and_then}
 use Rattle.text.specs.Decimals.{glyph, next_mark, columns, plain, decimal}
 use Rattle.text_reading.specs.Reading.{Seen, cols, lone_zero, bad, most, is_digit, digit, other, next, run_on, start}
@@ -45,6 +47,16 @@ next-digit m r b e = rw e refl
 pub digit_more : (m r d : ℕ) → (r + d ≡ 0 → ⊥) → r ≤ most → digit m r d ≡ cols m (r * 10 + d)
 unfolding digit
 digit_more m r d k l = rw (ne_eqb (r + d) 0 k, le-leb r most l) refl
+
+-- The library's test, which answered a, is the definition's.
+pub ascii_digit : (b : ℕ) {r a : Bool} → r ≡ is_ascii_digit b → r ≡ a → is_digit b ≡ a
+unfolding is_digit
+ascii_digit b e f = sym (e ∙ at (dec_lt b 48) (dec_lt b 58)) ∙ f
+  where
+    at : Dec (b < 48) → Dec (b < 58) → is_ascii_digit b ≡ cond (ltb b 48) false (ltb b 58)
+    at (yes l) d = rw (lt-ltb b 48 l, lt-leb 48 b l) refl
+    at (no g) (yes l) = rw (le-ltb b 48 (omega arith), lt-ltb b 58 l, le-leb 48 b (omega arith), le-leb b 57 (omega arith)) refl
+    at (no g) (no k) = rw (le-ltb b 48 (omega arith), le-ltb b 58 (omega arith), le-leb 48 b (omega arith), lt-leb b 57 (omega arith)) refl
 
 pub digit_range : (b : ℕ) → is_digit b ≡ true → (48 ≤ b) × (b < 58)
 unfolding is_digit

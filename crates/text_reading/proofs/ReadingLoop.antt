@@ -12,10 +12,9 @@ use lib.Dec.{eqb, ltb}
 use lib.IntN.{pos}
 use lib.ListN.{length, take, drop, get_or, take-append-drop}
 use lib.Seq.{take-suc, take_all}
-use Rattle.std.specs.Prelude.{Option, Some, None, unwrap_or}
-use Rattle.std.specs.List.{position_or_len, position_from}
+use Rattle.std.specs.Prelude.{Some, None, unwrap_or}
+use Rattle.std.specs.List.{position_or_len}
 use Rattle.std.proofs.lemmas.Bool.{not-false, not-true}
-use Rattle.std.proofs.lemmas.Iterator.Adapters.{position_from-zero}
 use Rattle.std.proofs.lemmas.List.Sums.{prefix_len-le-length, fails_before_first, passes_at_first}
 use Rattle.text_reading.specs.Reading.{Seen, cols, lone_zero, bad, digit, other, next, run_on, start}
 use Rattle.text_reading.specs.Reading.{finish, value_of}
@@ -57,7 +56,7 @@ blanks_turn t i l e h = run_turn t i (cols 32 0) l h ∙ ap (next (cols 32 0)) e
 
 -- The first place of another byte, or the length where blanks alone stand.
 module _ (t : List ℕ) where
-  abbrev is_other : ℕ → Bool
+  abbrev pub is_other : ℕ → Bool
   is_other b = not (eqb b 32)
 
   abbrev p : ℕ
@@ -71,8 +70,8 @@ module _ (t : List ℕ) where
       let blank : get_or t i 0 ≡ 32 = eqb-true _ 32 (not-false _ (fails_before_first is_other t i 0 (omega arith))) in
       rw (← add-one i) (blanks_turn t i (omega arith) blank (blanks_seen i (omega arith)))
 
-  pub leading_blanks : (r : Option ℕ) → r ≡ position_from is_other 0 t → LeadingBlanks t (unwrap_or r (length t))
-  leading_blanks r e =
+  pub leading_blanks : LeadingBlanks t (unwrap_or (cond (ltb p (length t)) (Some p) None) (length t))
+  leading_blanks =
       let within : p ≤ length t = prefix_len-le-length (λ b. not (is_other b)) t in
       let first : LeadingBlanks t p =
       record {
@@ -80,7 +79,7 @@ module _ (t : List ℕ) where
         seen = blanks_seen p (omega arith);
         stop = λ l. eqb-false _ 32 (not-true _ (passes_at_first is_other t 0 l));
       } in
-      rw (e ∙ sym (position_from-zero is_other t)) (at (dec_lt p (length t)) within first)
+      at (dec_lt p (length t)) within first
     where
       at : Dec (p < length t) → p ≤ length t → LeadingBlanks t p
           → LeadingBlanks t (unwrap_or (cond (ltb p (length t)) (Some p) None) (length t))

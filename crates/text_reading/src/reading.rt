@@ -1,8 +1,7 @@
 // Inner functions of the strict reader, in the order of the columns: blanks, a mark, digits. One pass over the bytes; a
 // text that is no decimal is refused at the byte that shows it. The public call is at the crate's root.
-ghost use Rattle.std.specs.List.{position_from};
-ghost use Rattle.std.specs.Prelude.{◌≡◌, ◌==◌, not, ◌+◌, ◌-◌, ◌*◌, ◌≤◌, get_or};
-ghost use Rattle.text_reading.specs.Reading.{is_digit, signed, finish, value_of};
+ghost use Rattle.std.specs.Prelude.{◌≡◌, ◌+◌, ◌-◌, ◌*◌, ◌≤◌, get_or};
+ghost use Rattle.text_reading.specs.Reading.{signed, finish, value_of};
 ghost use Rattle.text_reading.specs.Inner.Digits.{digits_seen};
 ghost use Rattle.text_reading.specs.Inner.Stages.{LeadingBlanks, DigitsFrom};
 
@@ -11,7 +10,8 @@ const DIGITS: usize = 19;
 
 const LARGEST: u64 = 1_000_000_000_000_000_009;
 
-// The digits' value with its mark, a byte of the text: `-` and `as` are what the library has for it.
+// The digits' value with its mark, `-` or a blank: the byte itself, as the definitions have it and as it is written.
+// `0i64.saturating_sub_unsigned(size)` would spare one of the two casts, and name a limit that is never met.
 fn signed(mark: u8, size: u64) -> i64
     requires { size ≤ 1_000_000_000_000_000_009 }
     ensures { result ≡ signed mark size }
@@ -33,13 +33,6 @@ fn counted(mark: u8, size: u64) -> Option<i64>
     Some(signed(mark, size))
 }
 
-#[tactic(auto, unfolding(crate::specs::Reading::is_digit))]
-fn is_digit(b: u8) -> bool
-    ensures { result ≡ is_digit b }
-{
-    b.is_ascii_digit()
-}
-
 // The value of a digit. In 64 bits from the start: with `b - b'0'` in 8 a record is read in a fifteenth more.
 fn digit(b: u8) -> u64
     requires { (48 ≤ b) × (b ≤ 57) }
@@ -57,19 +50,14 @@ fn pair(a: u8, b: u8) -> u64
     digit(a) * 10 + digit(b)
 }
 
-// The place of the first byte that is no blank.
-fn first_other(columns: &[u8]) -> Option<usize>
-    ensures { result ≡ position_from (λ b. not (b == 32)) 0 columns.now }
-{
-    columns.iter().position(|b| *b != b' ')
-}
-
-// How many blanks the columns begin with. The place is a function of its own: of a `position` whose answer goes on into
-// `unwrap_or` the check does not find what it is.
+// How many blanks the columns begin with.
 fn blanks(columns: &[u8]) -> usize
     ensures { LeadingBlanks columns.now result }
 {
-    first_other(columns).unwrap_or(columns.len())
+    columns
+        .iter()
+        .position(|b| *b != b' ')
+        .unwrap_or(columns.len())
 }
 
 // The value of columns whose blanks and mark end at `start`, where no zero stands: two digits a turn, then the last.
@@ -88,7 +76,7 @@ fn digits_after(columns: &[u8], start: usize, mark: u8) -> Option<i64>
     while k + 1 < end {
         let a = columns[k];
         let b = columns[k + 1];
-        if !is_digit(a) || !is_digit(b) {
+        if !a.is_ascii_digit() || !b.is_ascii_digit() {
             return None;
         }
         size = size * 100 + pair(a, b);
@@ -96,7 +84,7 @@ fn digits_after(columns: &[u8], start: usize, mark: u8) -> Option<i64>
     }
     if k < end {
         let last = columns[k];
-        if !is_digit(last) {
+        if !last.is_ascii_digit() {
             return None;
         }
         size = size * 10 + digit(last);

@@ -16,8 +16,8 @@ overflow_cast-river c =
     let size = size_known c.args.text.now (sym c.if-not-size_fits.ensures) in
     Fits-below {n = 9} tt (omega (arith, size))
 
-pub read_cells-requires-clause-cells_in_text : goal.read_cells-requires-clause-cells_in_text
-read_cells-requires-clause-cells_in_text c =
+pub read_cells-requires : goal.read_cells-requires
+read_cells-requires c =
     (size_known c.args.text.now (sym c.if-not-size_fits.ensures)).0
 
 -- Some line has no value.

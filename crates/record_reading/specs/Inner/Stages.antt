@@ -1,8 +1,7 @@
--- What the inner functions of the reader hand to each other: the values of a cell by its text alone, and a river's arrays
--- over which they are stored. No assumptions.
+-- What the inner functions of the reader hand to each other: the values of a cell by its text alone. No assumptions.
 use Rattle.std.specs.Prelude.{ℕ, ◌+◌, ◌*◌, Bool, List, ℤ, pos, nat_abs, Option, is_some, unwrap_or}
 use Rattle.numeric.specs.Check.{every}
-use Rattle.numeric.specs.Table.{run}
+use Rattle.numeric.specs.Table.{tab}
 use Rattle.stoichiometry.specs.Substances.{substances}
 use Rattle.stoichiometry.specs.Rows.{processes}
 use Rattle.text.specs.Blocks.{part}
@@ -21,10 +20,9 @@ number_in t c k = unwrap_or (value_in t c k) (pos 0)
 abbrev pub cell_found : List ℕ → ℕ → Bool
 cell_found t c = every lines (λ k. is_some (value_in t c k))
 
--- The amounts, after those of cell c, whose text is t.
-abbrev pub amounts_stored : List ℕ → ℕ → List ℤ → List ℤ
-amounts_stored t c amounts = run amounts (c * substances) substances (number_in t c)
+-- Its amounts and its carries.
+abbrev pub amounts_found : List ℕ → ℕ → List ℤ
+amounts_found t c = tab substances (number_in t c)
 
--- The carries.
-abbrev pub carries_stored : List ℕ → ℕ → List ℕ → List ℕ
-carries_stored t c carries = run carries (c * processes) processes (λ p. nat_abs (number_in t c (substances + p)))
+abbrev pub carries_found : List ℕ → ℕ → List ℕ
+carries_found t c = tab processes (λ p. nat_abs (number_in t c (substances + p)))

@@ -1,11 +1,11 @@
 -- `read_cell` meets its contract: a line without a value, or a line more (proofs/ReadCells.antt). No assumptions.
-use Rattle.std.proofs.Common.{◌≡◌, ◌<◌, ◌+◌, ◌-◌, ℕ, refl, sym, ap, ◌∙◌, arith, is_some, nat_abs}
+use Rattle.std.proofs.Common.{rules, ◌≡◌, ◌<◌, ◌+◌, ◌-◌, ℕ, sym, ap, ◌∙◌, arith, is_some, nat_abs}
 use lib.Signed.{yes_non_neg}
 use mir.Facts.{Fits-below}
 use Rattle.numeric.proofs.CheckLaws.{every-none, every_more, every_fails}
-use Rattle.numeric.proofs.Filling.{run_none}
+use Rattle.numeric.proofs.Filling.{fill_none, fill_done}
 use Rattle.stoichiometry.specs.Substances.{substances}
-use Rattle.river.specs.declared.River.{River}
+use Rattle.stoichiometry.specs.Rows.{processes}
 use Rattle.record.specs.Lines.{lines}
 use Rattle.record_reading.specs.Inner.Stages.{number_in}
 use Rattle.record_reading.proofs.ReadCells.{line_is, value_found, value_some, value_kept, carry_range}
@@ -14,7 +14,7 @@ use Rattle.record_reading.proofs.reading.read_cell.Goals as goal
 use Rattle.record_reading.proofs.reading.read_cell.Goals.{then-k-lt-SUBSTANCES, else-k-lt-SUBSTANCES}
 
 pub loop-k-init : goal.loop-k-init
-loop-k-init c = (every-none _, refl, run_none _ _ _, run_none _ _ _)
+loop-k-init c = (every-none _, fill_none _ _ _ (search rules), fill_none _ _ _ (search rules))
 
 -- A line has no value.
 pub returns-in_err-value-clause-value : goal.returns-in_err-value-clause-value
@@ -26,8 +26,8 @@ returns-in_err-value-clause-value c =
     ap is_some c.from_residual.ensures
     ∙ sym (every_fails lines _ _ inside (ap is_some (sym found ∙ c.in_err-value.was)))
 
-pub overflow_cast-river : goal.overflow_cast-river
-overflow_cast-river c =
+pub overflow_cast-carries : goal.overflow_cast-carries
+overflow_cast-carries c =
     let k = c.loop-k.k in
     let inside : c.loop-k.k < lines = omega (arith, c.loop-k-test.true, c.as_chunks.ensures.front_len, c.told-text) in
     let cut = line_is c.args.text.now _ k c.as_chunks.ensures.front c.told-text inside in
@@ -49,18 +49,25 @@ loop-k-preserved c =
       | then-k-lt-SUBSTANCES w ↦
           let h = w.if-k-lt-SUBSTANCES.true in (
             more,
-            ap (λ (r : River). r.cells) w.river-is ∙ c.loop-k.invariant.1,
-            ap (λ (r : River). r.amounts) w.river-is ∙ amount_stored _ _ _ k _ h c.loop-k.invariant.2 _ kept,
-            ap (λ (r : River). r.carries) w.river-is ∙ carries_kept _ _ _ k _ h c.loop-k.invariant.3,
+            rw w.amounts-is (amount_stored _ k _ h c.loop-k.invariant.1 _ kept),
+            rw w.carries-is (carries_kept _ k _ h c.loop-k.invariant.2),
           )
       | else-k-lt-SUBSTANCES w ↦
           let h = w.if-k-lt-SUBSTANCES.false in
           let line : substances + (k - substances) ≡ k = omega arith in
           let at_line = ap (λ (q : ℕ). nat_abs (number_in c.args.text.now c.args.c q)) (sym line) in (
             more,
-            ap (λ (r : River). r.cells) w.river-is ∙ c.loop-k.invariant.1,
-            ap (λ (r : River). r.amounts) w.river-is ∙ amounts_kept _ _ _ k _ h c.loop-k.invariant.2,
-            ap (λ (r : River). r.carries) w.river-is
-                ∙ carry_stored _ _ _ k _ h c.loop-k.invariant.3 _ (ap nat_abs kept ∙ at_line),
+            rw w.amounts-is (amounts_kept _ k _ h c.loop-k.invariant.1),
+            rw w.carries-is (carry_stored _ k _ h inside c.loop-k.invariant.2 _ (ap nat_abs kept ∙ at_line)),
           )
     ]
+
+pub returns-clause-amounts_after : goal.returns-clause-amounts_after
+returns-clause-amounts_after c =
+    fill_done substances _ _ _ c.loop-k.invariant.1
+    (omega (arith, c.loop-k-test.false, c.as_chunks.ensures.front_len, c.told-text))
+
+pub returns-clause-carries_after : goal.returns-clause-carries_after
+returns-clause-carries_after c =
+    fill_done processes _ _ _ c.loop-k.invariant.2
+    (omega (arith, c.loop-k-test.false, c.as_chunks.ensures.front_len, c.told-text))

@@ -1,8 +1,8 @@
 -- The loop's invariant: the first k lines have their values, which are stored: those of the first 18 lines as amounts,
 -- those past them as carries. No assumptions.
-use Rattle.std.proofs.Common.{◌≡◌, ◌+◌, ◌*◌, ◌-◌, true, is_some, nat_abs}
+use Rattle.std.proofs.Common.{◌≡◌, ◌+◌, ◌-◌, true, is_some, nat_abs}
 use Rattle.numeric.specs.Check.{every}
-use Rattle.numeric.specs.Table.{run}
+use Rattle.numeric.proofs.Filling.{Filled}
 use Rattle.stoichiometry.specs.Rows.{processes}
 use Rattle.stoichiometry.specs.Substances.{substances}
 use Rattle.record_reading.specs.Inner.Stages.{value_in, number_in}
@@ -11,6 +11,5 @@ use Rattle.record_reading.proofs.reading.read_cell.Given as goal
 abbrev pub invariant-loop-k : goal.invariant-loop-k
 invariant-loop-k l =
     (every l.k (λ q. is_some (value_in l.text l.c q)) ≡ true)
-    × (l.river.cells ≡ l.fn.river.cells)
-    × (l.river.amounts ≡ run l.fn.river.amounts (l.c * substances) (l.k - (l.k - substances)) (number_in l.text l.c))
-    × (l.river.carries ≡ run l.fn.river.carries (l.c * processes) (l.k - substances) (λ p. nat_abs (number_in l.text l.c (substances + p))))
+    × Filled substances (l.k - (l.k - substances)) (number_in l.text l.c) l.amounts
+    × Filled processes (l.k - substances) (λ p. nat_abs (number_in l.text l.c (substances + p))) l.carries

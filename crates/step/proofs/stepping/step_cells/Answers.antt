@@ -1,5 +1,5 @@
 -- A cell is stepped as the definition says (proofs/StepLoop.antt), and a row more is made in both lists; joined, the rows
--- are the definition's lists (proofs/StepLaws.antt). No assumptions.
+-- are the definition's lists (numeric, GridLaws.antt). No assumptions.
 use Rattle.std.proofs.Common.{◌≡◌, ◌*◌, rules, refl, sym, ◌∙◌, arith, length}
 use lib.IntN.{pos}
 use Rattle.std.proofs.lemmas.Result.{err_from_is_err_and}
@@ -12,12 +12,12 @@ use Rattle.step.specs.Steps.{stepped_amounts, stepped_carries}
 use Rattle.step.proofs.RatingLaws.{halves-fit}
 use Rattle.step.proofs.StepLoop.{cell_fits_lem, carries_fit_lem, few_at, amounts_at, carries_at}
 use Rattle.step.proofs.StepLoop.{all_few, one_many, few_passed, few_refused}
-use Rattle.step.proofs.StepLaws.{made_none, made_next, made_done}
+use Rattle.numeric.proofs.GridLaws.{made_none, made_next, made_done}
 use Rattle.step.proofs.stepping.step_cells.Goals as goal
 
 pub loop-c-init : goal.loop-c-init
 loop-c-init c =
-    record { passed = every-none _; stepped = made_none substances _ (pos 0) _; kept = made_none processes _ 0 _ }
+    record { passed = every-none _; stepped = made_none most_cells substances _ (pos 0) _; kept = made_none most_cells processes _ 0 _ }
 
 pub bounds-cells-c : goal.bounds-cells-c
 bounds-cells-c c =
@@ -98,10 +98,10 @@ loop-c-preserved c =
           every_more n _ inv.passed
           (sym (few_at r right _ _ cells kept n h a.set a.conditions) ∙ few_passed _ ok.batches);
       stepped =
-          made_next substances r.cells (pos 0) _ n _ _ inv.stepped h most
+          made_next most_cells substances r.cells (pos 0) _ n _ _ inv.stepped h most
           (ok.amounts ∙ amounts_at r right _ _ cells kept n h a.set a.conditions);
       kept =
-          made_next processes r.cells 0 _ n _ _ inv.kept h most
+          made_next most_cells processes r.cells 0 _ n _ _ inv.kept h most
           (ok.carries ∙ carries_at r right _ _ cells kept n h a.set a.conditions);
     }
 
@@ -115,10 +115,10 @@ pub returns-clause-amounts_after : goal.returns-clause-amounts_after
 unfolding stepped_amounts
 returns-clause-amounts_after c =
     c.copy_from_slice.ensures.after ∙ c.as_flattened.ensures.value
-    ∙ made_done substances c.args.checked.now.river.now.cells (pos 0) _ c.loop-c.c _ (omega arith) c.loop-c.invariant.stepped
+    ∙ made_done most_cells substances c.args.checked.now.river.now.cells (pos 0) _ c.loop-c.c _ (omega arith) c.loop-c.invariant.stepped
 
 pub returns-clause-carries_after : goal.returns-clause-carries_after
 unfolding stepped_carries
 returns-clause-carries_after c =
     c.copy_from_slice-2.ensures.after ∙ c.as_flattened-2.ensures.value
-    ∙ made_done processes c.args.checked.now.river.now.cells 0 _ c.loop-c.c _ (omega arith) c.loop-c.invariant.kept
+    ∙ made_done most_cells processes c.args.checked.now.river.now.cells 0 _ c.loop-c.c _ (omega arith) c.loop-c.invariant.kept

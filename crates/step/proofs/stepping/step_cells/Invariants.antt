@@ -8,7 +8,8 @@ use Rattle.stoichiometry.specs.Totals.{amount_at}
 use Rattle.river.specs.Rivers.{carry_at}
 use Rattle.step.specs.Steps.{new_amount, new_carry}
 use Rattle.step.specs.Inner.Stepping.{batches_few}
-use Rattle.step.proofs.StepLaws.{RowsMade}
+use Rattle.numeric.proofs.GridLaws.{RowsMade}
+use Rattle.river.specs.Rivers.{most_cells}
 use Rattle.step.proofs.stepping.step_cells.Given as goal
 
 abbrev pub invariant-loop-c : goal.invariant-loop-c
@@ -16,9 +17,9 @@ invariant-loop-c l =
     record {
       passed : every l.c (λ c. batches_few l.fn.set l.fn.conditions (amount_at l.checked.river.now.amounts c) (carry_at l.checked.river.now.carries c)) ≡ true;
       stepped :
-          RowsMade substances l.checked.river.now.cells (pos 0)
+          RowsMade most_cells substances l.checked.river.now.cells (pos 0)
           (λ c. new_amount l.fn.set l.fn.conditions (amount_at l.checked.river.now.amounts c) (carry_at l.checked.river.now.carries c)) l.c l.amounts_after;
       kept :
-          RowsMade processes l.checked.river.now.cells 0
+          RowsMade most_cells processes l.checked.river.now.cells 0
           (λ c. new_carry l.fn.set l.fn.conditions (amount_at l.checked.river.now.amounts c) (carry_at l.checked.river.now.carries c)) l.c l.carries_after;
     }

@@ -1,12 +1,12 @@
 -- `digits_after` meets its contract: two digits a turn, then the last. No assumptions.
 use mathlib.Core.Bool.{◌&&◌}
-use Rattle.std.proofs.Common.{sym, ap₂, ◌∙◌, arith}
-use Rattle.text_reading.proofs.ReadingLaws.{digit_range}
+use Rattle.std.proofs.Common.{◌+◌, get_or, sym, ap₂, ◌∙◌, arith}
+use Rattle.text_reading.proofs.ReadingLaws.{ascii_digit, digit_range}
 use Rattle.text_reading.proofs.DigitLoop.{digits_start, digits_fit, digits_more, digits_two}
 use Rattle.text_reading.proofs.DigitLoop.{digits_not, two_not, digits_end, many_none}
 use Rattle.text_reading.proofs.reading.digits_after.Goals as goal
-use Rattle.text_reading.proofs.reading.digits_after.Goals.{then-k-end+else-not-is_digit-3, else-k-end}
-use Rattle.text_reading.proofs.reading.digits_after.Goals.{then-not-is_digit-via-then-not-is_digit, then-not-is_digit-via-else-not-is_digit+then-not-is_digit-2}
+use Rattle.text_reading.proofs.reading.digits_after.Goals.{then-k-end+else-not-is_ascii_digit-3, else-k-end}
+use Rattle.text_reading.proofs.reading.digits_after.Goals.{then-not-is_ascii_digit-via-then-not-is_ascii_digit, then-not-is_ascii_digit-via-else-not-is_ascii_digit+then-not-is_ascii_digit-2}
 
 -- Too many digits.
 pub returns-then-end-start-gt-DIGITS : goal.returns-then-end-start-gt-DIGITS
@@ -17,14 +17,14 @@ pub loop-k-init : goal.loop-k-init
 loop-k-init c = digits_start _ _ _ c.requires.digits_from c.requires.no_leading_zero
 
 -- A byte that is no digit.
-pub returns-then-not-is_digit : goal.returns-then-not-is_digit
-returns-then-not-is_digit c =
-    elim c.then-not-is_digit.branch [
-      | then-not-is_digit-via-then-not-is_digit w ↦
-          sym (digits_not _ _ _ _ _ c.loop-k.invariant (omega arith) (sym c.is_digit.ensures ∙ w.if-not-is_digit.true))
-      | then-not-is_digit-via-else-not-is_digit+then-not-is_digit-2 w ↦
-          let first = sym c.is_digit.ensures ∙ w.if-not-is_digit.false in
-          let second = sym w.is_digit-else-not-is_digit.ensures ∙ w.if-not-is_digit-2.true in
+pub returns-then-not-is_ascii_digit : goal.returns-then-not-is_ascii_digit
+returns-then-not-is_ascii_digit c =
+    elim c.then-not-is_ascii_digit.branch [
+      | then-not-is_ascii_digit-via-then-not-is_ascii_digit w ↦
+          sym (digits_not _ _ _ _ _ c.loop-k.invariant (omega arith) (ascii_digit (get_or c.args.columns.now c.loop-k.k 0) c.is_ascii_digit.ensures.value w.if-not-is_ascii_digit.true))
+      | then-not-is_ascii_digit-via-else-not-is_ascii_digit+then-not-is_ascii_digit-2 w ↦
+          let first = ascii_digit (get_or c.args.columns.now c.loop-k.k 0) c.is_ascii_digit.ensures.value w.if-not-is_ascii_digit.false in
+          let second = ascii_digit (get_or c.args.columns.now (c.loop-k.k + 1) 0) w.is_ascii_digit-else-not-is_ascii_digit.ensures.value w.if-not-is_ascii_digit-2.true in
           sym (two_not _ _ _ _ _ c.loop-k.invariant c.loop-k-test.true (ap₂ ◌&&◌ first second))
     ]
 
@@ -33,29 +33,29 @@ overflow_mul-size c = let small = digits_fit _ _ _ _ _ c.loop-k.invariant 17 (om
 
 pub pair-requires-clause-first_digit : goal.pair-requires-clause-first_digit
 pair-requires-clause-first_digit c =
-    omega (arith, digit_range _ (sym c.is_digit.ensures ∙ c.if-not-is_digit.false))
+    omega (arith, digit_range _ (ascii_digit (get_or c.args.columns.now c.loop-k.k 0) c.is_ascii_digit.ensures.value c.if-not-is_ascii_digit.false))
 
 pub pair-requires-clause-second_digit : goal.pair-requires-clause-second_digit
 pair-requires-clause-second_digit c =
-    omega (arith, digit_range _ (sym c.is_digit-else-not-is_digit.ensures ∙ c.if-not-is_digit-2.false))
+    omega (arith, digit_range _ (ascii_digit (get_or c.args.columns.now (c.loop-k.k + 1) 0) c.is_ascii_digit-else-not-is_ascii_digit.ensures.value c.if-not-is_ascii_digit-2.false))
 
 pub overflow_add-size : goal.overflow_add-size
 overflow_add-size c =
-    let first = sym c.is_digit.ensures ∙ c.if-not-is_digit.false in
-    let second = sym c.is_digit-else-not-is_digit.ensures ∙ c.if-not-is_digit-2.false in
+    let first = ascii_digit (get_or c.args.columns.now c.loop-k.k 0) c.is_ascii_digit.ensures.value c.if-not-is_ascii_digit.false in
+    let second = ascii_digit (get_or c.args.columns.now (c.loop-k.k + 1) 0) c.is_ascii_digit-else-not-is_ascii_digit.ensures.value c.if-not-is_ascii_digit-2.false in
     let small = digits_fit _ _ _ _ _ c.loop-k.invariant 17 (omega arith) in
     omega (arith, digit_range _ first, digit_range _ second, c.pair.ensures)
 
 pub loop-k-preserved : goal.loop-k-preserved
 loop-k-preserved c =
-    let first = sym c.is_digit.ensures ∙ c.if-not-is_digit.false in
-    let second = sym c.is_digit-else-not-is_digit.ensures ∙ c.if-not-is_digit-2.false in
+    let first = ascii_digit (get_or c.args.columns.now c.loop-k.k 0) c.is_ascii_digit.ensures.value c.if-not-is_ascii_digit.false in
+    let second = ascii_digit (get_or c.args.columns.now (c.loop-k.k + 1) 0) c.is_ascii_digit-else-not-is_ascii_digit.ensures.value c.if-not-is_ascii_digit-2.false in
     rw c.pair.ensures (digits_two _ _ _ _ _ c.loop-k.invariant c.loop-k-test.true first second)
 
 -- The last byte is no digit.
-pub returns-then-not-is_digit-3 : goal.returns-then-not-is_digit-3
-returns-then-not-is_digit-3 c =
-    let wrong = sym c.is_digit-then-k-end.ensures ∙ c.if-not-is_digit-3.true in
+pub returns-then-not-is_ascii_digit-3 : goal.returns-then-not-is_ascii_digit-3
+returns-then-not-is_ascii_digit-3 c =
+    let wrong = ascii_digit (get_or c.args.columns.now c.loop-k.k 0) c.is_ascii_digit-then-k-end.ensures.value c.if-not-is_ascii_digit-3.true in
     sym (digits_not _ _ _ _ _ c.loop-k.invariant c.if-k-end.true wrong)
 
 pub overflow_mul-size-then-k-end : goal.overflow_mul-size-then-k-end
@@ -63,11 +63,11 @@ overflow_mul-size-then-k-end c = let small = digits_fit _ _ _ _ _ c.loop-k.invar
 
 pub digit-requires : goal.digit-requires
 digit-requires c =
-    omega (arith, digit_range _ (sym c.is_digit-then-k-end.ensures ∙ c.if-not-is_digit-3.false))
+    omega (arith, digit_range _ (ascii_digit (get_or c.args.columns.now c.loop-k.k 0) c.is_ascii_digit-then-k-end.ensures.value c.if-not-is_ascii_digit-3.false))
 
 pub overflow_add-size-then-k-end : goal.overflow_add-size-then-k-end
 overflow_add-size-then-k-end c =
-    let range = digit_range _ (sym c.is_digit-then-k-end.ensures ∙ c.if-not-is_digit-3.false) in
+    let range = digit_range _ (ascii_digit (get_or c.args.columns.now c.loop-k.k 0) c.is_ascii_digit-then-k-end.ensures.value c.if-not-is_ascii_digit-3.false) in
     let small = digits_fit _ _ _ _ _ c.loop-k.invariant 18 (omega arith) in
     omega (arith, range, c.digit.ensures)
 
@@ -76,8 +76,8 @@ pub returns : goal.returns
 returns c =
     c.counted.ensures
     ∙ elim c.if-k-end.branch [
-      | then-k-end+else-not-is_digit-3 w ↦
-          let digit = sym w.is_digit-then-k-end.ensures ∙ w.if-not-is_digit-3.false in
+      | then-k-end+else-not-is_ascii_digit-3 w ↦
+          let digit = ascii_digit (get_or c.args.columns.now c.loop-k.k 0) w.is_ascii_digit-then-k-end.ensures.value w.if-not-is_ascii_digit-3.false in
           let whole = digits_more _ _ _ _ _ c.loop-k.invariant w.if-k-end.true digit in
           rw (w.size-is, w.digit.ensures) (sym (digits_end _ _ _ _ _ whole (omega arith)))
       | else-k-end w ↦ rw w.size-is (sym (digits_end _ _ _ _ _ c.loop-k.invariant w.if-k-end.false))
