@@ -1,9 +1,8 @@
 -- Check 4: `amounts_fit` and `carries_fit` by the parts that the code tests, and as facts of each amount and carry, both
 -- ways; then what is known of a river of which check 4 does not hold, and when it does not. No assumptions.
-use Prim.Native.Nat.{ℕ, zero, suc, min, ◌<◌, ◌≤◌, ◌+◌, ◌-◌, ◌*◌, ◌/◌, ◌%◌, zero-le}
+use Prim.Native.Nat.{ℕ, min, ◌<◌, ◌≤◌, ◌+◌, ◌-◌, ◌*◌, ◌/◌, ◌%◌, zero-le}
 use mathlib.Core.Bool.{not, Bool, true, false, ◌&&◌, cond, true≢false}
 use mathlib.Core.List.{List, []}
-use native.Mathlib.Nat.{zero-add, zero-mul, suc-mul}
 use Rattle.std.proofs.lemmas.List.{ext_get_or}
 use Rattle.std.specs.List.{AllWithin, HoldsAt, EachIndex}
 use Rattle.std.specs.Bool.{Decides, MatchBool}
