@@ -1,4 +1,5 @@
-// The calls on a set and a river, each with its arguments from a line and its answer as number, digest and river.
+// The calls on a set and a river, each with its arguments from a line and its answer as number, digest and river. Line
+// and river stay apart: a struct of both would be made for each line and taken apart in each call.
 use crate::digest::{Answer, Digest};
 use crate::kinds::Call;
 use crate::line::Line;

@@ -28,7 +28,8 @@ pub(crate) fn reading_fits(x: f32) -> bool
     x >= 0.0 && x < Frame::READING_END
 }
 
-// The exact value of x times the scale, rounded down. Readings of field 0 give less than one.
+// The exact value of x times the scale, rounded down. Readings of field 0 give less than one. A shift of 64 or more is
+// tested: with `unbounded_shr` the proof does not close.
 pub(crate) fn scaled_floor(x: f32, scale: Scale) -> u64
     requires { reading_fits x ≡ true }
     ensures { result ≡ scaled_floor x scale.numerator scale.denominator }

@@ -40,7 +40,8 @@ impl Terms<'_> {
     }
 
     // The amount after of the substance at place s. The binary digits of `changing` say which processes change the
-    // substance, process 1 last.
+    // substance, process 1 last. They are taken off one by one, as `Digits` reads them: of a shift by p that would be a
+    // law more.
     fn amount_after(&self, s: usize, changing: u32) -> i64
         requires { (s < substances) × Digits changing s }
         ensures { result ≡ new_from self.now.amounts.now self.now.batches.now self.now.entries.now s }

@@ -54,7 +54,7 @@ impl Book {
         }
     }
 
-    // A number, of either sign, of a substance that came to a cell.
+    // A number, of either sign, of a substance that came to a cell, as a call of load has them.
     pub(crate) fn enter_number(&mut self, set: Set, cell: u32, substance: u32, number: i64) {
         if number < 0 {
             let lost = contents_of(set, substance, number.saturating_neg());

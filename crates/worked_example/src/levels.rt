@@ -15,7 +15,7 @@ impl fmt::Display for Level {
     }
 }
 
-// The level at a place of a cell's amounts; 0 where there is no such place.
+// The level at a place of a cell's amounts; 0 where there is no such place. The list below has place and unit of each.
 fn level_at(cell: &[i64], at: usize, microgram: Microgram) -> Level {
     Level(microgram.level(cell.get(at).copied().unwrap_or(0)))
 }
