@@ -82,8 +82,8 @@ fn run_fits(cell: &[i64; SUBSTANCES], first: usize, end: usize) -> bool
 }
 
 // True only where the amounts of a cell are in their bounds, by few tests: of SS and SI, of NH4 to HCO3, of H+, of XH to
-// XI, and of XP, H2O and N2. False tells nothing. Tested one by one instead, a step takes as long, but a load, an air or
-// a flow 1.05 times as long: about as many instructions, but in a load 252 branches for 163.
+// XI, and of XP, H2O and N2. False tells nothing. Tested one by one instead, a step takes as long, but a load, an air
+// or a flow 1.05 times as long: about as many instructions, but in a load 252 branches for 163.
 #[tactic(auto, unfolding(numeric::specs::Check::every, crate::specs::Rivers::lowest_at, crate::specs::Rivers::highest_at))]
 fn runs_fit(cell: &[i64; SUBSTANCES]) -> bool
     ensures { result ≡ true → RunFits cell.now 0 substances }
