@@ -49,8 +49,8 @@ fn value_at(river: &River, c: usize, k: usize) -> i64
 }
 
 // The lines of cell c, from 0, over their bytes. Here and in `write_cells` blocks are cut out by their place: nothing
-// is known of a text after `as_chunks_mut`, and a function with a closure for such loops would be public and have to ask
-// that it may be called. The cell is told by its number, as its columns are.
+// is known of a text after `as_chunks_mut`, and a function with a closure for such loops would be public and have to
+// ask that it may be called. The cell is told by its number, as its columns are.
 fn write_cell(text: &mut [u8], river: &River, c: usize, labels: &Labels)
     requires room { (c < most_cells) × (length text.old ≡ cell_bytes) }
     requires labels { Labels labels.now }
