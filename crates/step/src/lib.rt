@@ -4,10 +4,10 @@
 ghost use Rattle.std.specs.Prelude.{◌≡◌};
 ghost use Rattle.step.specs.Steps.{step_answer};
 
-use crate::stepping::step_cells;
+use crate::rates::Rates;
 use kinetics::Conditions;
 use river::{AMOUNTS, CARRIES, River, amounts_fit};
-use rows::rows_of;
+use rows::{batches_of, rows_of};
 use stoichiometry::{Refusal, Set};
 
 mod apply;
@@ -29,12 +29,18 @@ pub fn step_river(set: Set, river: River, conditions: Conditions) -> Result<Rive
     if conditions.are_wrong() {
         return Err(Refusal::Conditions);
     }
+    let rates = Rates {
+        set,
+        conditions,
+        entries: &rows.entries,
+        sizes: batches_of(set),
+    };
     let mut after = River {
         cells: river.cells,
         amounts: [0; AMOUNTS],
         carries: [0; CARRIES],
     };
-    step_cells(set, conditions, &rows.entries, &checked, &mut after)?;
+    rates.step_cells(&checked, &mut after)?;
     if !amounts_fit(river.cells, &after.amounts) {
         return Err(Refusal::Bounds);
     }

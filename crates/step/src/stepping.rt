@@ -6,16 +6,14 @@ ghost use Rattle.stoichiometry.specs.Rows.{processes};
 ghost use Rattle.stoichiometry.specs.Substances.{substances};
 ghost use Rattle.step.specs.Steps.{batches_wrong, new_amount, new_carry, stepped_amounts, stepped_carries};
 ghost use Rattle.step.specs.Inner.Rating.{amount_in, carry_in};
-ghost use Rattle.step.specs.Inner.Stepping.{CarriesFit, StepReady, batches_few};
+ghost use Rattle.step.specs.Inner.Stepping.{CarriesFit, batches_few};
 
 use crate::apply::Terms;
 use crate::cell::Cell;
 use crate::rates::Rates;
 use crate::split::{batches_fit, split};
-use kinetics::Conditions;
 use river::{Checked, River};
-use rows::batches_of;
-use stoichiometry::{ENTRIES, PROCESSES, Refusal, SUBSTANCES, Set};
+use stoichiometry::{PROCESSES, Refusal, SUBSTANCES};
 
 impl Rates<'_> {
     // Writes the carries after of one cell, which has these carries, and then, if it passes check 7, its amounts after.
@@ -48,46 +46,35 @@ impl Rates<'_> {
         *amounts_after = terms.amounts_after();
         Ok(())
     }
-}
-
-// Writes the amounts and the carries after, cell by cell, with zeros beyond the river's last. Where a cell does not
-// pass check 7 it ends there: 7 in any cell comes before 8 in any. What each cell has after is written into arrays of
-// cells and copied at the end: of a part of the river's lists that is lent by `as_chunks_mut` nothing would be known
-// after. The river is lent: where both lists are answered a step takes 1.06 times as many instructions.
-pub(crate) fn step_cells(
-    set: Set,
-    conditions: Conditions,
-    entries: &[i64; ENTRIES],
-    checked: &Checked,
-    after: &mut River,
-) -> Result<(), Refusal>
-    requires { StepReady set conditions entries.now }
-    ensures batches { result ≡ (if batches_wrong set conditions checked.now.river.now then Err Batches else Ok tt) }
-    ensures cells_kept { OnOk result (after.new.cells ≡ after.old.cells) }
-    ensures amounts_after { OnOk result (after.new.amounts ≡ stepped_amounts set conditions checked.now.river.now) }
-    ensures carries_after { OnOk result (after.new.carries ≡ stepped_carries set conditions checked.now.river.now) }
-{
-    let rates = Rates {
-        set,
-        conditions,
-        entries,
-        sizes: batches_of(set),
-    };
-    let river = checked.river;
-    let (cells, _) = river.amounts.as_chunks::<SUBSTANCES>();
-    let (carries, _) = river.carries.as_chunks::<PROCESSES>();
-    let mut amounts_after = [[0; SUBSTANCES]; River::CELLS_MOST];
-    let mut carries_after = [[0; PROCESSES]; River::CELLS_MOST];
-    for c in 0..river.cells as usize {
-        let cell = Cell { amounts: &cells[c] };
-        rates.step_cell(
-            &cell,
-            &carries[c],
-            &mut amounts_after[c],
-            &mut carries_after[c],
-        )?;
+    // Writes the amounts and the carries after, cell by cell, with zeros beyond the river's last. Where a cell does not
+    // pass check 7 it ends there: 7 in any cell comes before 8 in any. What each cell has after is written into arrays of
+    // cells and copied at the end: of a part of the river's lists that is lent by `as_chunks_mut` nothing would be known
+    // after. The river is lent: where both lists are answered a step takes 1.06 times as many instructions.
+    pub(crate) fn step_cells(&self, checked: &Checked, after: &mut River) -> Result<(), Refusal>
+        ensures batches { result ≡
+            (if batches_wrong self.now.set self.now.conditions checked.now.river.now then Err Batches else Ok tt) }
+        ensures cells_kept { OnOk result (after.new.cells ≡ after.old.cells) }
+        ensures amounts_after { OnOk result
+            (after.new.amounts ≡ stepped_amounts self.now.set self.now.conditions checked.now.river.now) }
+        ensures carries_after { OnOk result
+            (after.new.carries ≡ stepped_carries self.now.set self.now.conditions checked.now.river.now) }
+    {
+        let river = checked.river;
+        let (cells, _) = river.amounts.as_chunks::<SUBSTANCES>();
+        let (carries, _) = river.carries.as_chunks::<PROCESSES>();
+        let mut amounts_after = [[0; SUBSTANCES]; River::CELLS_MOST];
+        let mut carries_after = [[0; PROCESSES]; River::CELLS_MOST];
+        for c in 0..river.cells as usize {
+            let cell = Cell { amounts: &cells[c] };
+            self.step_cell(
+                &cell,
+                &carries[c],
+                &mut amounts_after[c],
+                &mut carries_after[c],
+            )?;
+        }
+        after.amounts.copy_from_slice(amounts_after.as_flattened());
+        after.carries.copy_from_slice(carries_after.as_flattened());
+        Ok(())
     }
-    after.amounts.copy_from_slice(amounts_after.as_flattened());
-    after.carries.copy_from_slice(carries_after.as_flattened());
-    Ok(())
 }

@@ -7,6 +7,7 @@ use Rattle.stoichiometry.proofs.RefusalLaws.{test_holds, test_passed}
 use Rattle.stoichiometry.proofs.SetNumber.{accepted-passes}
 use Rattle.river.proofs.CheckedLaws.{four_handed, four_passed}
 use Rattle.kinetics.proofs.ConditionLaws.{conditions_fit}
+use Rattle.step.proofs.RatingLaws.{halves-fit}
 use Rattle.step.proofs.StepNumber.{Passed, rows_known, rows_unknown, set_refused, river_refused}
 use Rattle.step.proofs.StepNumber.{conditions_refused, batches_refused, amounts_refused, step-accepted}
 use Rattle.step.proofs.step_river.Goals as goal
@@ -47,18 +48,16 @@ passed c =
       six = sym c.if-are_wrong.ensures.answer;
     }
 
-pub step_cells-requires : goal.step_cells-requires
-step_cells-requires c =
+pub invariant_of-rates : goal.invariant_of-rates
+invariant_of-rates c =
     let p = passed (search) in
     let rows = c.in_ok-rows.ensures in
+    let figures = (accepted-passes c.args.set p.accepted).1 in
     record {
-      ready =
-          record {
-            figures = (accepted-passes c.args.set p.accepted).1;
-            ranges = conditions_fit c.args.conditions p.six;
-            rows = (rows_known c.args.set _ rows.answer).1;
-          };
-      fit = record { bounded = rows.bounded; zeros = rows.zeros };
+      ready = record { figures = figures; ranges = conditions_fit c.args.conditions p.six; rows = (rows_known c.args.set _ rows.answer).1 };
+      halves = halves-fit c.args.set figures;
+      entries_fit = record { bounded = rows.bounded; zeros = rows.zeros };
+      sized = c.batches_of.ensures.answer;
     }
 
 -- Refused by the batches.

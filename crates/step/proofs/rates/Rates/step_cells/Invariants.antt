@@ -10,16 +10,16 @@ use Rattle.step.specs.Steps.{new_amount, new_carry}
 use Rattle.step.specs.Inner.Stepping.{batches_few}
 use Rattle.numeric.proofs.GridLaws.{RowsMade}
 use Rattle.river.specs.Rivers.{most_cells}
-use Rattle.step.proofs.stepping.step_cells.Given as goal
+use Rattle.step.proofs.rates.Rates.step_cells.Given as goal
 
 abbrev pub invariant-loop-c : goal.invariant-loop-c
 invariant-loop-c l =
     record {
-      passed : every l.c (λ c. batches_few l.fn.set l.fn.conditions (amount_at l.checked.river.now.amounts c) (carry_at l.checked.river.now.carries c)) ≡ true;
+      passed : every l.c (λ c. batches_few l.self.set l.self.conditions (amount_at l.checked.river.now.amounts c) (carry_at l.checked.river.now.carries c)) ≡ true;
       stepped :
           RowsMade most_cells substances l.checked.river.now.cells (pos 0)
-          (λ c. new_amount l.fn.set l.fn.conditions (amount_at l.checked.river.now.amounts c) (carry_at l.checked.river.now.carries c)) l.c l.amounts_after;
+          (λ c. new_amount l.self.set l.self.conditions (amount_at l.checked.river.now.amounts c) (carry_at l.checked.river.now.carries c)) l.c l.amounts_after;
       kept :
           RowsMade most_cells processes l.checked.river.now.cells 0
-          (λ c. new_carry l.fn.set l.fn.conditions (amount_at l.checked.river.now.amounts c) (carry_at l.checked.river.now.carries c)) l.c l.carries_after;
+          (λ c. new_carry l.self.set l.self.conditions (amount_at l.checked.river.now.amounts c) (carry_at l.checked.river.now.carries c)) l.c l.carries_after;
     }

@@ -9,11 +9,10 @@ use Rattle.stoichiometry.specs.Substances.{substances}
 use Rattle.river.specs.Rivers.{most_cells}
 use Rattle.river.proofs.Rivers.{river-cells}
 use Rattle.step.specs.Steps.{stepped_amounts, stepped_carries}
-use Rattle.step.proofs.RatingLaws.{halves-fit}
 use Rattle.step.proofs.StepLoop.{cell_fits_lem, carries_fit_lem, few_at, amounts_at, carries_at}
 use Rattle.step.proofs.StepLoop.{all_few, one_many, few_passed, few_refused}
 use Rattle.numeric.proofs.GridLaws.{made_none, made_next, made_done}
-use Rattle.step.proofs.stepping.step_cells.Goals as goal
+use Rattle.step.proofs.rates.Rates.step_cells.Goals as goal
 
 pub loop-c-init : goal.loop-c-init
 loop-c-init c =
@@ -34,16 +33,6 @@ bounds-amounts_after-c c = omega (arith, (river-cells c.args.checked.now.river.n
 
 pub bounds-carries_after-c : goal.bounds-carries_after-c
 bounds-carries_after-c c = omega (arith, (river-cells c.args.checked.now.river.now c.args.checked.now.right).1)
-
-pub invariant_of-rates : goal.invariant_of-rates
-invariant_of-rates c =
-    let ready = c.requires.ready in
-    record {
-      ready = ready;
-      halves = halves-fit c.args.set ready.figures;
-      entries_fit = c.requires.fit;
-      sized = c.batches_of.ensures.answer;
-    }
 
 pub invariant_of-cell : goal.invariant_of-cell
 invariant_of-cell c =
@@ -75,8 +64,8 @@ returns-in_err-step_cell-clause-batches c =
     let kept = rw longer at c.as_chunks-2.ensures.front in
     let handed = err_from_is_err_and c.from_residual.result c.from_residual.ensures.1 in
     let known = few_refused _ _ c.in_err-step_cell.ensures.batches in
-    let same = few_at r c.args.checked.now.right _ _ cells kept n c.loop-c-test.true a.set a.conditions in
-    let wrong = one_many a.set a.conditions r n c.loop-c-test.true (sym same ∙ known.0) in
+    let same = few_at r c.args.checked.now.right _ _ cells kept n c.loop-c-test.true a.self.now.set a.self.now.conditions in
+    let wrong = one_many a.self.now.set a.self.now.conditions r n c.loop-c-test.true (sym same ∙ known.0) in
     rw (handed.1, handed.2, known.1, wrong) refl
 
 pub loop-c-preserved : goal.loop-c-preserved
@@ -96,20 +85,20 @@ loop-c-preserved c =
     record {
       passed =
           every_more n _ inv.passed
-          (sym (few_at r right _ _ cells kept n h a.set a.conditions) ∙ few_passed _ ok.batches);
+          (sym (few_at r right _ _ cells kept n h a.self.now.set a.self.now.conditions) ∙ few_passed _ ok.batches);
       stepped =
           made_next most_cells substances r.cells (pos 0) _ n _ _ inv.stepped h most
-          (ok.amounts ∙ amounts_at r right _ _ cells kept n h a.set a.conditions);
+          (ok.amounts ∙ amounts_at r right _ _ cells kept n h a.self.now.set a.self.now.conditions);
       kept =
           made_next most_cells processes r.cells 0 _ n _ _ inv.kept h most
-          (ok.carries ∙ carries_at r right _ _ cells kept n h a.set a.conditions);
+          (ok.carries ∙ carries_at r right _ _ cells kept n h a.self.now.set a.self.now.conditions);
     }
 
 pub returns-clause-batches : goal.returns-clause-batches
 returns-clause-batches c =
     let a = c.args in
     let finished : c.loop-c.c ≡ a.checked.now.river.now.cells = omega arith in
-    rw (all_few a.set a.conditions a.checked.now.river.now (rw finished at c.loop-c.invariant.passed)) refl
+    rw (all_few a.self.now.set a.self.now.conditions a.checked.now.river.now (rw finished at c.loop-c.invariant.passed)) refl
 
 pub returns-clause-amounts_after : goal.returns-clause-amounts_after
 unfolding stepped_amounts
