@@ -34,8 +34,10 @@ impl Text {
     pub(crate) fn of(river: River) -> Text {
         let mut bytes = [0; ROOM];
         let mut work = [0; ROOM];
-        let length = record::write_record(river, &mut bytes, &mut work)
-            .map_or(0, |()| record_length(river.cells));
+        let length = record::write_record(river, &mut bytes, &mut work).map_or(
+            0,
+            |()| record_length(river.cells),
+        );
         Text { bytes, length }
     }
 
