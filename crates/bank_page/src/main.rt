@@ -1,4 +1,5 @@
-// Reads a record from standard input and prints its bank page; for any other input, its number and a line feed.
+// Reads a record from standard input and prints its bank page; for any other input, its number and a line feed. As
+// copy_record, but for the call that writes and the room that it takes.
 #![tactic(auto)]
 
 use page::Page;

@@ -1,27 +1,34 @@
 -- `read_cell` meets its contract: a line without a value, or a line more (proofs/ReadCells.antt). No assumptions.
-use Rattle.std.proofs.Common.{rules, ◌≡◌, ◌<◌, ◌+◌, ◌-◌, ℕ, sym, ap, ◌∙◌, arith, is_some, nat_abs}
+use Rattle.std.proofs.Common.{rules, ◌≡◌, ◌<◌, ◌+◌, ◌-◌, ◌*◌, ℕ, [], get_or, sym, ap, ◌∙◌, arith, is_some, nat_abs}
 use lib.Signed.{yes_non_neg}
 use mir.Facts.{Fits-below}
 use Rattle.numeric.proofs.CheckLaws.{every-none, every_more, every_fails}
 use Rattle.numeric.proofs.Filling.{fill_none, fill_done}
 use Rattle.stoichiometry.specs.Substances.{substances}
 use Rattle.stoichiometry.specs.Rows.{processes}
-use Rattle.record.specs.Lines.{lines}
+use Rattle.text.specs.Blocks.{part}
+use Rattle.record.specs.Lines.{lines, line_bytes}
 use Rattle.record_reading.specs.Inner.Stages.{number_in}
 use Rattle.record_reading.proofs.ReadCells.{line_is, value_found, value_some, value_kept, carry_range}
 use Rattle.record_reading.proofs.ReadCells.{amount_stored, amounts_kept, carry_stored, carries_kept}
 use Rattle.record_reading.proofs.reading.read_cell.Goals as goal
-use Rattle.record_reading.proofs.reading.read_cell.Goals.{then-k-lt-SUBSTANCES, else-k-lt-SUBSTANCES}
+use Rattle.record_reading.proofs.reading.read_cell.Goals.{In-loop-k, then-k-lt-SUBSTANCES, else-k-lt-SUBSTANCES}
 
 pub loop-k-init : goal.loop-k-init
 loop-k-init c = (every-none _, fill_none _ _ _ (search rules), fill_none _ _ _ (search rules))
+
+-- Line k is one of the cell's, and is cut out of its text.
+line_at : (c : In-loop-k) → (c.loop-k.k < lines)
+    × (get_or c.as_chunks.result.0.now c.loop-k.k [] ≡ part (c.loop-k.k * line_bytes) line_bytes c.args.text.now)
+line_at c =
+    let inside : c.loop-k.k < lines = omega (arith, c.loop-k-test.true, c.as_chunks.ensures.front_len, c.told-text) in
+    (inside, line_is c.args.text.now _ c.loop-k.k c.as_chunks.ensures.front c.told-text inside)
 
 -- A line has no value.
 pub returns-in_err-value-clause-value : goal.returns-in_err-value-clause-value
 returns-in_err-value-clause-value c =
     let k = c.loop-k.k in
-    let inside : c.loop-k.k < lines = omega (arith, c.loop-k-test.true, c.as_chunks.ensures.front_len, c.told-text) in
-    let cut = line_is c.args.text.now _ k c.as_chunks.ensures.front c.told-text inside in
+    let (inside, cut) = line_at (search) in
     let found = value_found c.args.text.now c.args.c k _ _ cut c.line_value.ensures in
     ap is_some c.from_residual.ensures
     ∙ sym (every_fails lines _ _ inside (ap is_some (sym found ∙ c.in_err-value.was)))
@@ -29,8 +36,7 @@ returns-in_err-value-clause-value c =
 pub overflow_cast-carries : goal.overflow_cast-carries
 overflow_cast-carries c =
     let k = c.loop-k.k in
-    let inside : c.loop-k.k < lines = omega (arith, c.loop-k-test.true, c.as_chunks.ensures.front_len, c.told-text) in
-    let cut = line_is c.args.text.now _ k c.as_chunks.ensures.front c.told-text inside in
+    let (inside, cut) = line_at (search) in
     let found = value_found c.args.text.now c.args.c k _ _ cut c.line_value.ensures in
     let some = sym found ∙ c.in_ok-value.was in
     let range = carry_range c.args.text.now c.args.c k c.if-k-lt-SUBSTANCES.false (value_some _ _ k _ some) in
@@ -39,8 +45,7 @@ overflow_cast-carries c =
 pub loop-k-preserved : goal.loop-k-preserved
 loop-k-preserved c =
     let k = c.loop-k.k in
-    let inside : c.loop-k.k < lines = omega (arith, c.loop-k-test.true, c.as_chunks.ensures.front_len, c.told-text) in
-    let cut = line_is c.args.text.now _ k c.as_chunks.ensures.front c.told-text inside in
+    let (inside, cut) = line_at (search) in
     let found = value_found c.args.text.now c.args.c k _ _ cut c.line_value.ensures in
     let some = sym found ∙ c.in_ok-value.was in
     let kept = value_kept c.args.text.now c.args.c k c.in_ok-value.value some in
