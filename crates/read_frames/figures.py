@@ -31,10 +31,17 @@ def answer(readings, kind, oxygen, saturation):
 
 
 BITS = re.compile(r"let bits = \[(.*)\];")
-SHOW = re.compile(r"show\(rt, bits, (mass|percent|Oxygen::Missing)(?:\((\w+)\))?, (\d+)\)")
-for line in pathlib.Path(__file__).parent.joinpath("src/table.rt").read_text().splitlines():
-    if found := BITS.search(line):
-        readings = [int(bits, 16) for bits in found[1].split(", ")]
-    elif found := SHOW.search(line):
-        kind, oxygen, saturation = found[1].removeprefix("Oxygen::"), int(found[2] or "0", 16), int(found[3])
-        print(answer(readings, kind, oxygen, saturation))
+ROW = re.compile(r"\(\s*(?:\[(0x[^]]*)\]|bits),\s*(?:Oxygen::)?(mass|percent|Missing)(?:\((\w+)\))?,\s*(\d+),?\s*\)")
+
+
+def bits_of(text):
+    """The bits of a list, or of one with four equal elements, [BITS; 4]."""
+    each, _, times = text.partition("; ")
+    return [int(bits, 16) for bits in each.split(", ")] * int(times or "1")
+
+
+# A function's rows; where all have the same bits, these stand before.
+for function in pathlib.Path(__file__).parent.joinpath("src/table.rt").read_text().split("pub(crate) fn")[1:]:
+    shared = BITS.search(function)
+    for bits, kind, oxygen, saturation in ROW.findall(function):
+        print(answer(bits_of(bits or shared[1]), kind, int(oxygen or "0", 16), int(saturation)))

@@ -8,13 +8,13 @@ use native.Mathlib.Omega.{arith}
 use lib.Dec.{eqb, lit<}
 use lib.ListN.{length}
 use lib.IntN.{ℤ, pos, ◌+ℤ◌, +ℤ_idr}
-use borrow.Author.Tests.{eq-eqb, ne_eqb, not-false}
-use Rattle.numeric.proofs.CheckLaws.{and_left, and_right, none_holds, by_number}
+use borrow.Author.Tests.{eq-eqb, ne_eqb, eqb-true, not-false}
+use Rattle.numeric.proofs.CheckLaws.{and_left, and_right, none_holds}
+use Rattle.std.proofs.lemmas.Bool.{cond_both}
 use Rattle.std.specs.Prelude.{Result}
 use Rattle.std.specs.Result.{result_unwrap_or}
 use Rattle.stoichiometry.specs.declared.refusals.Refusal.{Refusal}
 use Rattle.stoichiometry.specs.declared.Set.{Set}
-use Rattle.stoichiometry.specs.Refusals.{number}
 use Rattle.stoichiometry.proofs.RefusalLaws.{number-positive}
 use Rattle.stoichiometry.specs.Substances.{substances, o2, place, Total, contents}
 use Rattle.stoichiometry.specs.Totals.{cell_total}
@@ -93,8 +93,8 @@ module _ (set : Set) (n : ℕ) (r : River) (sound : SoundRiver n r) where
   unfolding load_answer load_number
   load_kept cell substance x =
       let call = load cell substance x in
-      by_number (λ a. Kept call (changed r a)) (load_number r cell substance x) _ _
-      (λ e. let none = none_holds _ refl e in
+      cond_both (eqb (load_number r cell substance x) 0) _ _ (λ a. Kept call (changed r a))
+      (λ e. let none = none_holds _ refl (eqb-true _ 0 e) in
       let exist = not-false _ none.1.0 in
       let at_cell = cell_bound r cell (and_left (cell_exists r cell) (substance_exists substance) exist) in
       let at_place = substance_bound substance (and_right (cell_exists r cell) (substance_exists substance) exist) in
@@ -111,9 +111,9 @@ module _ (set : Set) (n : ℕ) (r : River) (sound : SoundRiver n r) where
   flow_kept part =
       let left = left_of part r.amounts in
       let most = (river-cells r sound.right).1 in
-      by_number (λ a. Kept (flow part) (flowed r a)) (flow_number r part) _ _
+      cond_both (eqb (flow_number r part) 0) _ _ (λ a. Kept (flow part) (flowed r a))
       (λ e. accepted (flow part) _ _ refl
-      (sound_flow n r sound left (not-false _ (none_holds _ refl e).1.1.0))
+      (sound_flow n r sound left (not-false _ (none_holds _ refl (eqb-true _ 0 e)).1.1.0))
       (λ i j p l m t.
       held-flow set t r.cells r.amounts left i j p l (omega (arith, sound.cells)) most))
       (λ f. refused_kept (flow part) _)
@@ -125,8 +125,8 @@ module _ (set : Set) (n : ℕ) (r : River) (sound : SoundRiver n r) where
   air_kept cell k seconds saturation =
       let call = air cell k seconds saturation in
       let gain = gain_at r (cell - 1) k seconds saturation in
-      by_number (λ a. Kept call (aired r a)) (air_number r cell k seconds saturation) _ _
-      (λ e. let none = none_holds _ refl e in
+      cond_both (eqb (air_number r cell k seconds saturation) 0) _ _ (λ a. Kept call (aired r a))
+      (λ e. let none = none_holds _ refl (eqb-true _ 0 e) in
       let at_cell = cell_bound r cell (not-false _ none.1.0) in
       let fits = not-false _ none.1.1.1.0 in
       accepted call _ _ refl
@@ -139,8 +139,9 @@ module _ (set : Set) (n : ℕ) (r : River) (sound : SoundRiver n r) where
   unfolding step_answer
   step_kept conditions =
       let call = step conditions in
-      by_number (λ a. Kept call (changed r a)) (step_number set r conditions) _ _
-      (λ e. accepted call _ _ refl (sound_step set conditions n r sound (step-passes set r conditions e).1)
+      cond_both (eqb (step_number set r conditions) 0) _ _ (λ a. Kept call (changed r a))
+      (λ e. accepted call _ _ refl
+      (sound_step set conditions n r sound (step-passes set r conditions (eqb-true _ 0 e)).1)
       (λ i j p l m t.
       held-step set t conditions r i j p (omega (arith, sound.cells)) (river-cells r sound.right).1
       ∙ sym (+ℤ_idr (held set t r.amounts i j))))
@@ -168,7 +169,8 @@ pub step_keeps_totals : (set : Set) (r : River) (conditions : Conditions) (t : T
     → cell_total set t (result_unwrap_or (step_answer set r conditions) r).amounts c ≡ cell_total set t r.amounts c
 unfolding step_answer
 step_keeps_totals set r conditions t c h =
-    by_number (λ (a : Result River Refusal). cell_total set t (result_unwrap_or a r).amounts c ≡ cell_total set t r.amounts c)
-    (step_number set r conditions) _ _
-    (λ e. step_keeps_cell set t conditions r c h (omega (arith, river-cells r (step-passes set r conditions e).0)))
+    cond_both (eqb (step_number set r conditions) 0) _ _
+    (λ (a : Result River Refusal). cell_total set t (result_unwrap_or a r).amounts c ≡ cell_total set t r.amounts c)
+    (λ e. let right = (step-passes set r conditions (eqb-true _ 0 e)).0 in
+    step_keeps_cell set t conditions r c h (omega (arith, river-cells r right)))
     (λ f. refl)

@@ -7,13 +7,13 @@ use mathlib.Core.List.{List}
 use mathlib.Core.Path.{◌≡◌, refl, ◌∙◌}
 use native.Mathlib.Decide.{ℕ_discrete}
 use native.Mathlib.Omega.{arith}
-use lib.Arith.{digits_div, digits_mod}
+use lib.Arith.{digits_mod}
 use lib.Dec.{leb, ltb, eqb}
-use lib.ListN.{get_or, set, length, length-set, length-replicate}
+use lib.ListN.{set, length, length-set, length-replicate}
 use lib.Seq.{get_or-set_same, get_or-set_other}
-use lib.IntN.{ℤ, pos, nat_abs}
-use borrow.Author.Tests.{le-leb, lt-ltb}
-use Rattle.numeric.proofs.CheckLaws.{every_at, every_all}
+use lib.IntN.{ℤ, pos}
+use borrow.Author.Tests.{le-leb}
+use Rattle.numeric.proofs.CheckLaws.{every_all}
 use Rattle.numeric.specs.Table.{grid}
 use Rattle.numeric.proofs.GridLaws.{grid-length}
 use Rattle.numeric.proofs.TableLaws.{tab-length, get_or-tab}

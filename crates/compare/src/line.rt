@@ -7,7 +7,7 @@ const ROOM: usize = 96;
 
 // A line as far as it is read. Its numbers are kept without their signs, and need no heap, which would be one thing
 // more to trust.
-#[derive(Drop)]
+#[derive(Default, Drop)]
 pub(crate) struct Line {
     pub letter: Option<u8>,
     numbers: ArrayVec<u64, ROOM>,
@@ -16,14 +16,6 @@ pub(crate) struct Line {
 }
 
 impl Line {
-    pub(crate) fn new() -> Line {
-        Line {
-            letter: None,
-            numbers: ArrayVec::new(),
-            negative: false,
-        }
-    }
-
     // One more byte, which is no line feed.
     pub(crate) fn take(&mut self, byte: u8) {
         match byte {

@@ -13,14 +13,14 @@ const BLOCKS: u32 = 1000;
 // A last line with no line feed makes no call.
 pub(crate) fn tally_of(rt: &impl Input) -> Result<Tally> {
     let mut scene = Scene::new();
-    let mut line = Line::new();
+    let mut line = Line::default();
     let mut buffer = [0; BLOCK];
     for _ in 0..BLOCKS {
         let n = read_full(&mut rt.reader(), &mut buffer)?;
         for byte in &buffer[..n] {
             if *byte == b'\n' {
                 scene.take(&line);
-                line = Line::new();
+                line = Line::default();
             } else {
                 line.take(*byte);
             }

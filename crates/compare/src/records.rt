@@ -57,7 +57,9 @@ impl Text {
         }
     }
 
-    // Copies bytes one by one, the first one first, where all of them are in the room.
+    // Copies bytes one by one, the first one first, where all of them are in the room, as the vectors' table has it. By
+    // `copy_within` all are read before the first is written: another text where what is written begins within what
+    // is read.
     pub(crate) fn copy(&mut self, from: usize, to: usize, count: usize) {
         if count <= ROOM && from <= ROOM - count && to <= ROOM - count {
             for i in 0..count {

@@ -28,10 +28,10 @@ pub(crate) struct Scene {
 impl Scene {
     pub(crate) fn new() -> Scene {
         Scene {
-            figures: Figures::ZEROS,
+            figures: Figures::default(),
             river: no_river(),
             changed: Changes::default(),
-            tally: Tally::new(),
+            tally: Tally::default(),
         }
     }
 
@@ -43,6 +43,7 @@ impl Scene {
         }
     }
 
+    // The letter beside its line, here and below: it is taken out of its Option once.
     fn ask(&mut self, letter: u8, line: &Line) {
         match Kind::try_from(letter) {
             Ok(Kind::Set) => {

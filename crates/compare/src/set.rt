@@ -8,14 +8,12 @@ use stoichiometry::{
 
 const FIGURES: usize = 83;
 
-#[derive(Clone, Copy)]
+#[derive(Clone, Copy, Default)]
 pub(crate) struct Figures {
     list: [u32; FIGURES],
 }
 
 impl Figures {
-    pub(crate) const ZEROS: Figures = Figures { list: [0; FIGURES] };
-
     // The figures that a line gives.
     pub(crate) fn of(line: &Line) -> Figures {
         Figures {
@@ -23,7 +21,8 @@ impl Figures {
         }
     }
 
-    // N figures from a place on; one that is not there is 0.
+    // N figures from a place on; one that is not there is 0. By place: where one part is cut off after the other, each
+    // comes in an Option that is never None.
     fn part<const N: usize>(&self, first: usize) -> [u32; N] {
         array::from_fn(|i| self.list.get(first.saturating_add(i)).copied().unwrap_or(0))
     }
@@ -65,7 +64,7 @@ pub(crate) fn published(figures: &Figures) -> Answer {
     let answer = Set::published(figures.rates(), figures.half_saturations());
     Answer::of(
         &answer,
-        of_set(answer.unwrap_or(Set::from(&Figures::ZEROS))),
+        of_set(answer.unwrap_or(Set::from(&Figures::default()))),
     )
 }
 

@@ -7,18 +7,13 @@ use std::fmt;
 pub(crate) const NUMBERS: usize = 13;
 
 // Calls of one kind by expected number, and equal answers. No count reaches the limit.
-#[derive(Clone, Copy)]
+#[derive(Clone, Copy, Default)]
 pub(crate) struct Row {
     pub counts: [u64; NUMBERS],
     pub equal: u64,
 }
 
 impl Row {
-    const EMPTY: Row = Row {
-        counts: [0; NUMBERS],
-        equal: 0,
-    };
-
     fn count(&mut self, expected: Answer, got: Answer) {
         if let Some(count) = self.counts.get_mut(expected.number as usize) {
             *count = count.saturating_add(1);
@@ -54,7 +49,7 @@ impl fmt::Display for Difference {
 }
 
 // The rows by the calls' places in the table, the lines so far, and the first difference.
-#[derive(Drop)]
+#[derive(Default, Drop)]
 pub(crate) struct Tally {
     pub rows: [Row; Call::COUNT],
     lines: u64,
@@ -62,14 +57,6 @@ pub(crate) struct Tally {
 }
 
 impl Tally {
-    pub(crate) fn new() -> Tally {
-        Tally {
-            rows: [Row::EMPTY; Call::COUNT],
-            lines: 0,
-            first: None,
-        }
-    }
-
     pub(crate) fn count_line(&mut self) {
         self.lines = self.lines.saturating_add(1);
     }

@@ -2,14 +2,12 @@
 -- stores, and back to the order of ℤ. Bounds of whole expressions by computation: Fitting.antt. No assumptions.
 use mathlib.Core.Path.{◌≡◌, refl, ap}
 use mathlib.Core.List.{List, [], ◌∷◌, map}
-use Prim.Native.Nat.{ℕ, zero, suc, ◌+◌, ◌*◌, ◌^◌, ◌≤◌, ◌<◌, zero-le}
+use Prim.Native.Nat.{ℕ, zero, suc, ◌+◌, ◌*◌, ◌≤◌, zero-le}
 use native.Mathlib.Omega.{arith}
-use native.Mathlib.Nat.{mul-le-mul, lt_of_le_of_lt}
+use native.Mathlib.Nat.{mul-le-mul}
 use lib.ListN.{get_or}
 use lib.IntN.{ℤ, pos, negsuc, neg_ℤ, nat_abs, ◌+ℤ◌, ◌-ℤ◌, ◌*ℤ◌}
-use lib.Signed.{mag, ◌≤ℤ◌}
-use mir.Syntax.{w64}
-use mir.Val.{SFits}
+use lib.Signed.{◌≤ℤ◌}
 use Rattle.numeric.proofs.Difference.{up, dn}
 use Rattle.numeric.proofs.Expression.{v, #, ◌⊕◌, ⊝, at_most, at_most_of, rep}
 use Rattle.std.proofs.lemmas.Int.{unsigned_abs-mul}
@@ -27,13 +25,6 @@ parts_mono x y h = by_sign x y (at_most_of (x ∷ y ∷ []) (v 0) (v 1) h)
     by_sign (pos a) (negsuc b) k = (omega arith, omega arith)
     by_sign (negsuc a) (pos b) k = (omega arith, omega arith)
     by_sign (negsuc a) (negsuc b) k = (omega arith, omega arith)
-
-pub mag_abs : (z : ℤ) → mag z ≤ nat_abs z
-mag_abs (pos n) = omega arith
-mag_abs (negsuc n) = omega arith
-
-pub fits_abs : (z : ℤ) → nat_abs z < 2 ^ 63 → SFits w64 z
-fits_abs z h = record { sfits = lt_of_le_of_lt (mag_abs z) h }
 
 pub abs_neg : (z : ℤ) → nat_abs (neg_ℤ z) ≡ nat_abs z
 abs_neg (pos zero) = refl

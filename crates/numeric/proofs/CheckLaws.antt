@@ -1,7 +1,7 @@
 -- Laws of `every`, as the invariant of a checking loop wants them (start, a turn, both exits) and as its users do; of
 -- `all_of` and of `first_holding`. No assumptions.
 use Prim.Native.Nat.{ℕ, zero, suc, ◌<◌, ◌≤◌, ◌+◌, ◌*◌, ◌-◌, ◌/◌}
-use mathlib.Core.Bool.{Bool, true, false, not, ◌&&◌, and_assoc, and-true, and-false, cond, true≢false}
+use mathlib.Core.Bool.{Bool, true, false, not, ◌&&◌, and_assoc, and_comm, and-true, cond, true≢false}
 use mathlib.Core.List.{List, [], ◌∷◌, ◌++◌}
 use mathlib.Core.Path.{◌≡◌, refl, sym, ap, ap₂, ◌∙◌}
 use native.Mathlib.Numerals.{add-one}
@@ -11,9 +11,13 @@ use native.Mathlib.Omega.{arith}
 use lib.Dec.{leb, ltb, eqb}
 use lib.IntN.{ℤ, pos, nat_abs}
 use lib.ListN.{length, get_or}
-use borrow.Author.Tests.{ne_eqb, eqb-true, eqb-false, not-true, leb-true, ltb-true, lt-ltb, le-ltb}
+use borrow.Author.Tests.{ne_eqb, eqb-false, not-true, leb-true, ltb-true, lt-ltb, le-ltb}
+use Rattle.std.specs.Bool.{Decides}
+use Rattle.std.proofs.lemmas.Bool.{false_from_ne_true}
+use Rattle.std.proofs.lemmas.Bool.Decides.{Decides-below_and}
 use Rattle.numeric.specs.Check.{every, all_of, Check, ◌when◌, first_holding}
 
+-- std has both in one; each is cited for its half.
 pub and_left : (a b : Bool) → a && b ≡ true → a ≡ true
 and_left true b e = refl
 and_left false b e = e
@@ -39,31 +43,21 @@ pub every_more : (n : ℕ) (p : ℕ → Bool) → every n p ≡ true → p n ≡
 unfolding every
 every_more n p e h = rw (add-one, e, h)
 
-fails_at : (n i : ℕ) (p : ℕ → Bool) → i < suc n → p i ≡ false → (i < n → every n p ≡ false) → Dec (i < n)
-    → every n p && p n ≡ false
-fails_at n i p h e r (yes l) = ap (λ (b : Bool). b && p n) (r l)
-fails_at n i p h e r (no g) = let q : i ≡ n = omega arith in rw (← q, e) (and-false (every i p))
-
-pub every_fails : (n i : ℕ) (p : ℕ → Bool) → i < n → p i ≡ false → every n p ≡ false
+-- `every` decides that each number below n passes.
+pub every-Decides : (n : ℕ) (p : ℕ → Bool) → Decides (every n p) ((i : ℕ) → i < n → p i ≡ true)
 unfolding every
-every_fails zero i p h e = absurd (omega arith)
-every_fails (suc n) i p h e = fails_at n i p h e (λ l. every_fails n i p l e) (dec_lt i n)
-
-at_below : (n i : ℕ) (p : ℕ → Bool) → i < suc n → every n p && p n ≡ true → (i < n → p i ≡ true) → Dec (i < n)
-    → p i ≡ true
-at_below n i p h e r (yes l) = r l
-at_below n i p h e r (no g) = let q : i ≡ n = omega arith in rw q (and_right (every n p) (p n) e)
+every-Decides n p =
+    Decides-below_and p (λ i. p i ≡ true) (λ m. every m p) (λ i. (λ e. e, λ e. e)) refl
+    (λ m. and_comm (every m p) (p m)) n
 
 pub every_at : (n i : ℕ) (p : ℕ → Bool) → every n p ≡ true → i < n → p i ≡ true
-unfolding every
-every_at zero i p e h = absurd (omega arith)
-every_at (suc n) i p e h =
-    at_below n i p h e (λ l. every_at n i p (and_left (every n p) (p n) e) l) (dec_lt i n)
+every_at n i p e h = (every-Decides n p).0 e i h
 
 pub every_all : (n : ℕ) (p : ℕ → Bool) → ((i : ℕ) → i < n → p i ≡ true) → every n p ≡ true
-unfolding every
-every_all zero p h = refl
-every_all (suc n) p h = ap₂ ◌&&◌ (every_all n p (λ i l. h i (omega arith))) (h n (lt-suc_self n))
+every_all n p = (every-Decides n p).1
+
+pub every_fails : (n i : ℕ) (p : ℕ → Bool) → i < n → p i ≡ false → every n p ≡ false
+every_fails n i p h e = false_from_ne_true (every n p) (λ all. true≢false (sym (every_at n i p all h) ∙ e))
 
 -- Tests that agree below n give the same answer.
 pub every_eq : (n : ℕ) (p q : ℕ → Bool) → ((i : ℕ) → i < n → p i ≡ q i) → every n p ≡ every n q
@@ -195,12 +189,3 @@ first_last (m when true ∷ checks) number holds above own never e =
     eqb-false m number (not-true _ (and_left (not (eqb m number)) _ own)) e
 first_last (m when false ∷ checks) number holds above own never e =
     first_last checks number holds above (and_right (not (eqb m number)) _ own) (λ none. never (refl, none)) e
-
--- A fact of an answer by its number: no check holds, or one does.
-pub by_number : {A : Type 0} (P : A → Type 0) (n : ℕ) (x y : A) → (n ≡ 0 → P x) → ((n ≡ 0 → ⊥) → P y)
-    → P (cond (eqb n 0) x y)
-by_number P n x y accepted refused = go (eqb n 0) refl
-  where
-    go : (b : Bool) → eqb n 0 ≡ b → P (cond b x y)
-    go true e = accepted (eqb-true n 0 e)
-    go false e = refused (eqb-false n 0 e)

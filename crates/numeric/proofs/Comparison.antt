@@ -1,26 +1,21 @@
 -- What a test on signed numbers tells, and the test's value from what is known; then the same of the bits that the
 -- machine compares, and the test for 0. borrow.Author.Tests has the first two for ℕ. No assumptions.
-use mathlib.Core.Path.{◌≡◌, refl, sym, ap, ◌∙◌, subst}
+use mathlib.Core.Path.{◌≡◌, refl, sym, ap, ◌∙◌}
 use Prim.Native.Nat.{zero, suc}
-use mathlib.Core.Bool.{Bool, true, false, not, ◌&&◌}
+use mathlib.Core.Bool.{Bool, true, false, ◌&&◌}
 use native.Mathlib.Omega.{arith}
 use borrow.Author.Tests.{le-leb, lt-leb, eq-eqb, ne_eqb, eqb-true, eqb-false}
 use lib.Dec.{T, eqb}
 use lib.IntN.{ℤ, pos, negsuc, nat_abs}
-use lib.Signed.{lt_z, le_z, ◌≤ℤ◌, ◌<ℤ◌, lt_z_no}
+use lib.Signed.{lt_z, le_z, ◌≤ℤ◌, ◌<ℤ◌, le_z_yes, lt_z_yes, lt_z_no}
 use mir.Syntax.{Width, w64}
 use mir.Val.{SFits, to_z, of_z}
 use mir.Facts.{to_z-of_z, sfits_lit}
+use Rattle.std.proofs.lemmas.Float.{T_from_true, T_from_false}
 use Rattle.numeric.proofs.Bounds.{abs_zero}
 
-pub lt_z_true : (a b : ℤ) → lt_z a b ≡ true → a <ℤ b
-lt_z_true a b e = record { lt = subst T (sym e) tt }
-
-pub lt_z_false : (a b : ℤ) → lt_z a b ≡ false → b ≤ℤ a
-lt_z_false a b e = lt_z_no (subst (λ (t : Bool). T (not t)) (sym e) tt)
-
 pub le_z_true : (a b : ℤ) → le_z a b ≡ true → a ≤ℤ b
-le_z_true a b e = record { le = subst T (sym e) tt }
+le_z_true a b e = le_z_yes (T_from_true (le_z a b) e)
 
 is_true : (t : Bool) → T t → t ≡ true
 is_true true h = refl
@@ -37,10 +32,10 @@ pub bits_eq : {w : Width} {x y : ℤ} → SFits w x → SFits w y → of_z w x �
 bits_eq {w} f g e = sym (to_z-of_z f) ∙ ap (to_z w) e ∙ to_z-of_z g
 
 pub bits_lt : {w : Width} {x y : ℤ} → SFits w x → SFits w y → lt_z (to_z w (of_z w x)) (to_z w (of_z w y)) ≡ true → x <ℤ y
-bits_lt {x} {y} f g e = lt_z_true x y (simp (to_z-of_z, f, g) at e)
+bits_lt {x} {y} f g e = lt_z_yes (T_from_true (lt_z x y) (simp (to_z-of_z, f, g) at e))
 
 pub bits_nlt : {w : Width} {x y : ℤ} → SFits w x → SFits w y → lt_z (to_z w (of_z w x)) (to_z w (of_z w y)) ≡ false → y ≤ℤ x
-bits_nlt {x} {y} f g e = lt_z_false x y (simp (to_z-of_z, f, g) at e)
+bits_nlt {x} {y} f g e = lt_z_no (T_from_false (lt_z x y) (simp (to_z-of_z, f, g) at e))
 
 -- The machine tests the bits for 0, which are those of no other number.
 pub zero_bits : (z : ℤ) → SFits w64 z → eqb (of_z w64 z) 0 ≡ eqb (nat_abs z) 0

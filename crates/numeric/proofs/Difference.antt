@@ -2,12 +2,13 @@
 -- up z − dn z, one of the two being 0, and `Rep z p n` says that z is p − n. Expressions: Expression.antt. No
 -- assumptions.
 use mathlib.Core.Path.{◌≡◌, refl, ap}
-use mathlib.Core.Bool.{Bool, true, false, not, cond}
 use Prim.Native.Nat.{ℕ, zero, suc, ◌+◌, ◌-◌, ◌*◌, ◌≤◌, ◌<◌}
 use native.Mathlib.Omega.{arith}
-use lib.Dec.{T, ltb, ltb→lt, nltb→le, leb→le, le→leb, lt→ltb}
+use borrow.Author.Tests.{ltb-true, ltb-false}
+use lib.Dec.{T, ltb, ltb→lt, leb→le, le→leb, lt→ltb}
 use lib.IntN.{ℤ, pos, negsuc, neg_ℤ, sub_ℕ, ◌+ℤ◌, ◌*ℤ◌}
 use lib.Signed.{le_z, lt_z, ◌≤ℤ◌, ◌<ℤ◌}
+use Rattle.std.proofs.lemmas.Bool.{cond_both}
 
 -- The positive part.
 abbrev pub up : ℤ → ℕ
@@ -23,20 +24,10 @@ dn (negsuc n) = suc n
 pub record Rep (z : ℤ) (p n : ℕ) : Type 0 where
   pub is : up z + n ≡ p + dn z
 
-cond_ind : (c : Bool) (x y : ℤ) (P : ℤ → Type 0) → (T c → P x) → (T (not c) → P y) → P (cond c x y)
-cond_ind true x y P f g = f tt
-cond_ind false x y P f g = g tt
-
 pub rep_sub : (a b : ℕ) → up (sub_ℕ a b) + b ≡ a + dn (sub_ℕ a b)
 rep_sub a b =
-    cond_ind (ltb a b) (negsuc (b - suc a)) (pos (a - b)) (λ z. up z + b ≡ a + dn z)
-    (λ t. yes' (ltb→lt a b t)) (λ t. no' (nltb→le a b t))
-  where
-    yes' : a < b → 0 + b ≡ a + suc (b - suc a)
-    yes' h = omega arith
-
-    no' : b ≤ a → (a - b) + b ≡ a + 0
-    no' h = omega arith
+    cond_both (ltb a b) (negsuc (b - suc a)) (pos (a - b)) (λ z. up z + b ≡ a + dn z)
+    (λ e. omega (arith, ltb-true a b e)) (λ e. omega (arith, ltb-false a b e))
 
 pub up_neg : (n : ℕ) → up (neg_ℤ (pos n)) ≡ 0
 up_neg zero = refl

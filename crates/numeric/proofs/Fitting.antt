@@ -9,8 +9,9 @@ use lib.ListN.{get_or}
 use lib.IntN.{ℤ, pos, nat_abs}
 use mir.Syntax.{w64}
 use mir.Val.{SFits}
+use Rattle.std.proofs.lemmas.Int.{fits_signed_from_abs}
 use Rattle.numeric.proofs.Expression.{Ex, v, #, op, Operation, plus, minus, times, ⊝, apply, eval}
-use Rattle.numeric.proofs.Bounds.{fits_abs, abs_add, abs_sub, abs_neg, abs_mul_le}
+use Rattle.numeric.proofs.Bounds.{abs_add, abs_sub, abs_neg, abs_mul_le}
 
 infixr 67 ◌&◌
 -- Each number of the first list is from −b to b, for the b at its place in the second.
@@ -47,7 +48,7 @@ abs_by {zs} h (op o a b) = abs_apply o (eval zs a) (eval zs b) (abs_by h a) (abs
 abs_by {zs} h (⊝ a) = omega (arith, abs_by h a, abs_neg (eval zs a))
 
 pub fit : {zs : List ℤ} {bs : List ℕ} → Bounded zs bs → (e : Ex) → T (ltb (bound bs e) (2 ^ 63)) → SFits w64 (eval zs e)
-fit {zs} {bs} h e t = fits_abs (eval zs e) (lt_of_le_of_lt (abs_by h e) (ltb→lt (bound bs e) (2 ^ 63) t))
+fit {zs} {bs} h e t = fits_signed_from_abs w64 (eval zs e) (lt_of_le_of_lt (abs_by h e) (ltb→lt (bound bs e) (2 ^ 63) t))
 
 pub abs_under : {zs : List ℤ} {bs : List ℕ} → Bounded zs bs → (e : Ex) (b : ℕ) → T (leb (bound bs e) b)
     → nat_abs (eval zs e) ≤ b

@@ -1,17 +1,18 @@
 -- Joined bits, the machine's `|` of signed numbers: where the result is not below zero, both numbers are from 0 to it.
 -- No assumptions.
-use Prim.Native.Nat.{ℕ, ◌+◌, ◌-◌, ◌^◌, ◌≤◌, ◌<◌, suc, zero-le}
+use Prim.Native.Nat.{ℕ, ◌-◌, ◌^◌, ◌≤◌, ◌<◌, suc, zero-le}
 use mathlib.Core.Bool.{Bool, true, false}
 use mathlib.Core.Path.{◌≡◌, refl}
 use native.Mathlib.Omega.{arith}
 use borrow.Author.Tests.{ltb-true}
-use lib.Bits.{bit_or, bit_and, or_add_and, and_le_l, and_le_r}
+use lib.Bits.{bit_or}
 use lib.Dec.{ltb}
 use lib.IntN.{pos, negsuc}
 use lib.Signed.{◌≤ℤ◌}
 use mir.Facts.{to_z_pos}
 use mir.Syntax.{w64}
 use mir.Val.{to_z, sel}
+use Rattle.std.proofs.lemmas.Nat.{le_or_l, le_or_r}
 use Rattle.numeric.proofs.Bounds.{abs_le}
 
 -- Bits that are read as a number from 0 on have no sign.
@@ -32,8 +33,4 @@ covered a m le h =
 pub or_covers : (a b : ℕ) → pos 0 ≤ℤ to_z w64 (bit_or a b)
     → ((pos 0 ≤ℤ to_z w64 a) × (to_z w64 a ≤ℤ to_z w64 (bit_or a b)))
     × ((pos 0 ≤ℤ to_z w64 b) × (to_z w64 b ≤ℤ to_z w64 (bit_or a b)))
-or_covers a b h =
-    let sum : bit_or a b + bit_and a b ≡ a + b = or_add_and a b in
-    let left : bit_and a b ≤ a = and_le_l a b in
-    let right : bit_and a b ≤ b = and_le_r a b in
-    (covered a (bit_or a b) (omega arith) h, covered b (bit_or a b) (omega arith) h)
+or_covers a b h = (covered a (bit_or a b) (le_or_l a b) h, covered b (bit_or a b) (le_or_r a b) h)

@@ -1,6 +1,6 @@
 -- Laws by subject: differences and expressions of integers, the ring normaliser, bounds, quotients, comparisons, what
 -- fits 64 bits, machine expressions, joined bits, sizes, tables, filling loops, sums, checks, grids, chunks,
--- tables of cases.
+-- pairs of two lists, tables of cases.
 pub mod Difference
 pub mod Expression
 pub mod RingLaws
@@ -19,3 +19,4 @@ pub mod CheckLaws
 pub mod GridLaws
 pub mod CaseLaws
 pub mod ChunkLaws
+pub mod PairLaws

@@ -4,11 +4,12 @@
 -- e the operation's expression, and the result is known by `ran h e tt : mach env e ≡ eval env e`. `tt` is the test
 -- that each step's bound is below 2 ^ 63. No assumptions.
 use mathlib.Core.Path.{◌≡◌, refl, sym, ap, ap₂, ◌∙◌, subst}
-use mathlib.Core.Bool.{Bool, true, false, ◌&&◌}
+use mathlib.Core.Bool.{Bool, ◌&&◌}
 use mathlib.Core.List.{List}
 use Prim.Native.Nat.{ℕ, ◌^◌, ◌<◌}
 use lib.Dec.{T, ltb}
 use lib.ListN.{get_or}
+use lib.Ieee.Fits.{and_l, and_r}
 use lib.IntN.{ℤ, pos, neg_ℤ, ◌-ℤ◌, +ℤ_idl}
 use lib.Signed.{mag}
 use mir.Syntax.{w64}
@@ -53,10 +54,6 @@ small bs (# c) = under bs (# c)
 small bs (op o a b) = under bs (op o a b) && (small bs a && small bs b)
 small bs (⊝ a) = under bs (⊝ a) && small bs a
 
-and_both : (a b : Bool) → T (a && b) → T a × T b
-and_both true b t = (tt, t)
-and_both false b t = absurd t
-
 module _ {zs : List ℤ} {bs : List ℕ} (h : Bounded zs bs) where
   -- A result that fits is read back.
   back : (x y : ℤ) → x ≡ y → SFits w64 y → kept x ≡ y
@@ -66,29 +63,29 @@ module _ {zs : List ℤ} {bs : List ℕ} (h : Bounded zs bs) where
   ran (v i) t = to_z-of_z (fit h (v i) t)
   ran (# c) t = refl
   ran (op o a b) t =
-      let s = and_both (under bs (op o a b)) (small bs a && small bs b) t in
-      let p = and_both (small bs a) (small bs b) s.1 in
+      let parts = and_r (under bs (op o a b)) (small bs a && small bs b) t in
       back (apply o (mach zs a) (mach zs b)) (apply o (eval zs a) (eval zs b))
-      (ap₂ (apply o) (ran a p.0) (ran b p.1)) (fit h (op o a b) s.0)
+      (ap₂ (apply o) (ran a (and_l (small bs a) (small bs b) parts)) (ran b (and_r (small bs a) (small bs b) parts)))
+      (fit h (op o a b) (and_l (under bs (op o a b)) (small bs a && small bs b) t))
   ran (⊝ a) t =
-      let s = and_both (under bs (⊝ a)) (small bs a) t in
       back (pos 0 -ℤ mach zs a) (neg_ℤ (eval zs a))
-      (ap (λ (z : ℤ). pos 0 -ℤ z) (ran a s.1) ∙ +ℤ_idl (neg_ℤ (eval zs a))) (fit h (⊝ a) s.0)
+      (ap (λ (z : ℤ). pos 0 -ℤ z) (ran a (and_r (under bs (⊝ a)) (small bs a) t)) ∙ +ℤ_idl (neg_ℤ (eval zs a)))
+      (fit h (⊝ a) (and_l (under bs (⊝ a)) (small bs a) t))
 
   raw_is : (e : Ex) → T (small bs e) → raw zs e ≡ eval zs e
   raw_is (v i) t = refl
   raw_is (# c) t = refl
   raw_is (op o a b) t =
-      let p = and_both (small bs a) (small bs b) (and_both (under bs (op o a b)) (small bs a && small bs b) t).1 in
-      ap₂ (apply o) (ran a p.0) (ran b p.1)
+      let parts = and_r (under bs (op o a b)) (small bs a && small bs b) t in
+      ap₂ (apply o) (ran a (and_l (small bs a) (small bs b) parts)) (ran b (and_r (small bs a) (small bs b) parts))
   raw_is (⊝ a) t =
-      ap (λ (z : ℤ). pos 0 -ℤ z) (ran a (and_both (under bs (⊝ a)) (small bs a) t).1) ∙ +ℤ_idl (neg_ℤ (eval zs a))
+      ap (λ (z : ℤ). pos 0 -ℤ z) (ran a (and_r (under bs (⊝ a)) (small bs a) t)) ∙ +ℤ_idl (neg_ℤ (eval zs a))
 
   top : (e : Ex) → T (small bs e) → T (under bs e)
   top (v i) t = t
   top (# c) t = t
-  top (op o a b) t = (and_both (under bs (op o a b)) (small bs a && small bs b) t).0
-  top (⊝ a) t = (and_both (under bs (⊝ a)) (small bs a) t).0
+  top (op o a b) t = and_l (under bs (op o a b)) (small bs a && small bs b) t
+  top (⊝ a) t = and_l (under bs (⊝ a)) (small bs a) t
 
   pub asked : (e : Ex) → T (small bs e) → SFits w64 (raw zs e)
   asked e t = subst (λ (z : ℤ). SFits w64 z) (sym (raw_is e t)) (fit h e (top e t))

@@ -9,6 +9,7 @@ use Prim.Native.Nat.{ℕ}
 use native.Mathlib.Omega.{arith}
 use lib.Dec.{T, ltb, eqb, eqb→eq}
 use lib.ListN.{get_or}
+use lib.Ieee.Fits.{and_l, and_r}
 use lib.IntN.{ℤ, pos, negsuc, neg_ℤ, ◌+ℤ◌, ◌-ℤ◌, ◌*ℤ◌, +ℤ_idl, zero-*ℤ}
 use Rattle.numeric.proofs.Expression.{Ex, v, #, op, plus, minus, times, ◌⊕◌, ◌⊖◌, ◌⊗◌, ⊝, eval, equal}
 use Rattle.numeric.proofs.RingLaws.{*ℤ_assoc, *ℤ_distrib_left, *ℤ_distrib_right, one_*ℤ}
@@ -187,14 +188,11 @@ abbrev pub empty : List Term → Bool
 empty [] = true
 empty (term c m ∷ p) = nothing c && empty p
 
-both : (a b : Bool) → T (a && b) → T a × T b
-both true b t = (tt, t)
-both false b t = absurd t
-
 empty_is : (env : List ℤ) (p : List Term) → T (empty p) → value env p ≡ pos 0
 empty_is env [] t = refl
 empty_is env (term c m ∷ p) t =
-    ap₂ (λ (y z : ℤ). y *ℤ mono env m +ℤ z) (nothing_is c (both (nothing c) (empty p) t).0) (empty_is env p (both (nothing c) (empty p) t).1)
+    ap₂ (λ (y z : ℤ). y *ℤ mono env m +ℤ z) (nothing_is c (and_l (nothing c) (empty p) t))
+    (empty_is env p (and_r (nothing c) (empty p) t))
     ∙ ap (λ (z : ℤ). z +ℤ pos 0) (zero-*ℤ (mono env m))
 
 zero_difference : (x y : ℤ) → x -ℤ y ≡ pos 0 → x ≡ y

@@ -1,6 +1,7 @@
 -- Lists given by their elements: `tab n f` has the n elements f 0 to f (n − 1). It grows at its end, as a list does
--- that a counting loop fills; `run` is what a loop leaves that stores some elements from one place on; `grid` has rows.
--- Laws: proofs/TableLaws.antt, GridLaws.antt; the invariant of such a loop: proofs/Filling.antt. No assumptions.
+-- that a counting loop fills; as std's map over a range it would be no plainer. `run` is what a loop leaves that stores
+-- some elements from one place on; `grid` has rows. Laws: proofs/TableLaws.antt, GridLaws.antt; the invariant of such a
+-- loop: proofs/Filling.antt. No assumptions.
 use Rattle.std.specs.Prelude.{ℕ, zero, suc, ◌+◌, ◌*◌, ◌/◌, ◌%◌, cond, List, [], ◌∷◌, ◌++◌, ltb, set}
 
 module _ {A : Type 0} where

@@ -1,34 +1,31 @@
 -- Laws of the page of a river: every row is one, rows begin at 65 × (cell − 1), the page has 65 bytes a cell; the letter
 -- of a row is the one that `letter_of` answers; every level of a river that check 4 passes is in bounds. No assumptions.
 use Prim.Native.Nat.{ℕ, zero, suc, ◌+◌, ◌-◌, ◌*◌, ◌/◌, ◌≤◌, ◌<◌, zero-le}
-use mathlib.Core.Bool.{true, false, not}
+use mathlib.Core.Bool.{true, false}
 use mathlib.Core.List.{List, [], ◌∷◌, map}
 use mathlib.Core.Path.{◌≡◌, refl, sym, ap, ap₂, ◌∙◌}
 use native.Mathlib.Nat.{zero-add, zero-mul}
 use native.Mathlib.Omega.{arith}
-use borrow.Author.Tests.{not-true}
 use lib.Dec.{lit<}
-use lib.IntN.{ℤ, pos}
+use lib.IntN.{ℤ, nat_abs}
 use lib.ListN.{length, take, drop, get_or}
 use lib.Seq.{get_or-take, get_or-drop}
 use Rattle.std.specs.Prelude.{Ok}
 use Rattle.std.specs.Simd.{first_chunks}
-use Rattle.numeric.specs.Check.{every, first_holding}
-use Rattle.numeric.proofs.CheckLaws.{every_at}
-use Rattle.stoichiometry.specs.Substances.{Substance, substances, nh4, o2, place}
+use Rattle.numeric.specs.Check.{first_holding}
+use Rattle.stoichiometry.specs.Substances.{Substance, substances, organic, ss, nh4, no2, no3, hpo4, o2, place, most_grains}
 use Rattle.stoichiometry.specs.Levels.{level_of, most_level}
 use Rattle.stoichiometry.specs.Totals.{amount_at}
 use Rattle.stoichiometry.proofs.Contents.{place_lt}
 use Rattle.river.specs.declared.River.{River}
-use Rattle.river.specs.Rivers.{most_cells, river_wrong, cell_exists}
+use Rattle.river.specs.Rivers.{most_cells, river_wrong, cell_exists, amount_fits}
 use Rattle.river.specs.declared.Letter.{Letter}
 use Rattle.river.specs.declared.Letter.TheVariants.{LowOxygen, HighAmmonium, Neither}
 use Rattle.river.specs.Cells.{byte, letter_by, letter_of, letter_number, letter_answer}
 use Rattle.river.specs.Inner.Runs.{net_at}
-use Rattle.river.proofs.Bounds.{fits-level}
+use Rattle.river.proofs.Bounds.{fits-level, fits-organic}
 use Rattle.river.proofs.Levels.{level_bound}
-use Rattle.numeric.proofs.ChunkLaws.{chunk_at}
-use Rattle.river.proofs.Rivers.{river-cells, amount_fits_at, cell_bound}
+use Rattle.river.proofs.Rivers.{river-cells, amount_cut, amount_fits_at, cell_bound}
 use Rattle.text.specs.Blocks.{part}
 use Rattle.text.specs.Decimals.{columns, plain}
 use Rattle.text.proofs.BlockLaws.{blocks-length, part-blocks}
@@ -107,8 +104,8 @@ module _ (r : River) (right : river_wrong r ≡ false) (c : ℕ) (inside : c < r
 
     amount_is : (s : ℕ) → s < substances → amount_at cell 0 s ≡ amount_at r.amounts c s
     amount_is s l =
-        rw (cut, zero-mul, zero-add)
-        (chunk_at substances most_cells r.amounts c s (pos 0) (omega (arith, (river-cells r right).1)) l)
+        rw (zero-mul, zero-add)
+        (amount_cut most_cells r.amounts cells cut c (omega (arith, (river-cells r right).1)) s l)
 
     level_is : (s : Substance) → level_of s (amount_at cell 0 (place s)) ≡ level_of s (amount_at r.amounts c (place s))
     level_is s = ap (level_of s) (amount_is (place s) (place_lt s))
@@ -132,17 +129,22 @@ module _ (r : River) (right : river_wrong r ≡ false) (c : ℕ) (inside : c < r
     unfolding row_of
     cell_row_is = ap₂ (row (c + 1)) (ap byte letter_is) levels_are
 
+    amount_fits_in : (s : Substance) → amount_fits (place s) (amount_at cell 0 (place s)) ≡ true
+    amount_fits_in s =
+        rw (amount_is (place s) (place_lt s)) (amount_fits_at r right c (place s) inside (place_lt s))
+
+    grains_fit : (s : Substance) → net_at (place s) ≡ false → nat_abs (amount_at cell 0 (place s)) ≤ most_grains
+    grains_fit s n = (fits-level (place s) _ (place_lt s) n (amount_fits_in s)).1
+
     pub cell_fits_lem : CellFits cell
-    unfolding every
     cell_fits_lem =
         record {
-          small = λ s h.
-              let within : s < substances = omega arith in
-              let counted = every_at 7 s (λ k. not (net_at k)) refl (omega arith) in
-              rw (amount_is s within)
-              (fits-level s (amount_at r.amounts c s) within (not-true (net_at s) counted)
-              (amount_fits_at r right c s inside within)).1;
-          levels = rw levels_are (six r.amounts c, levels_bound);
+          substrate = fits-organic (place (organic ss)) _ (place_lt (organic ss)) refl (amount_fits_in (organic ss));
+          ammonium = grains_fit nh4 refl;
+          nitrite = grains_fit no2 refl;
+          nitrate = grains_fit no3 refl;
+          phosphate = grains_fit hpo4 refl;
+          oxygen = grains_fit o2 refl;
         }
 
   -- So each takes at most 8 of its 10 columns, and shows every digit down to the thousandth of a gram.

@@ -1,14 +1,11 @@
 // Rows written into lent bytes, cell by cell.
-ghost use Rattle.std.specs.Prelude.{◌≡◌, ◌*◌, ◌/◌, ◌≤◌, ◌<◌, nat_abs, length};
+ghost use Rattle.std.specs.Prelude.{◌≡◌, ◌*◌, ◌≤◌, ◌<◌, length, map};
 ghost use Rattle.std.specs.List.{flat_map};
-ghost use Rattle.stoichiometry.specs.Substances.{substances};
-ghost use Rattle.stoichiometry.specs.Levels.{in_microgram, most_level};
-ghost use Rattle.stoichiometry.specs.Totals.{amount_at};
+ghost use Rattle.stoichiometry.specs.Levels.{most_level};
 ghost use Rattle.river.specs.Rivers.{most_cells};
 ghost use Rattle.text.specs.Writes.{put};
 ghost use Rattle.page.specs.Pages.{level_columns, row_bytes, grams, row, levels_at, page_of};
-ghost use Rattle.page.specs.Inner.Stages.{levels_text, pair_of, justified_of, whole_of, cell_row};
-ghost use Rattle.page.specs.Inner.Stages.{CellFits, LevelsWithin};
+ghost use Rattle.page.specs.Inner.Stages.{levels_text, pair_of, justified_of, whole_of, cell_row, CellFits};
 
 use crate::Page;
 use river::{Checked, letter_by};
@@ -19,9 +16,15 @@ const AMMONIUM: usize = 1;
 
 const OXYGEN: usize = 5;
 
-// A cell of a river, of which the levels that a row has are known to be in their bounds; of step's `Cell` all amounts
-// are. Both have a private method `level`, which asks for one of the 18 places: in river it would be public, and no
-// public call asks anything.
+// A level, µg, in its bounds.
+#[derive(Clone, Copy)]
+struct Level {
+    micrograms: u32,
+    ghost most: { micrograms ≤ most_level },
+}
+
+// A cell of a river, of which the amounts that a row shows are known to be in their bounds. Not step's `Cell`: each
+// knows the bounds of the amounts that it needs, a row six, a step all 18.
 #[derive(Clone, Copy)]
 struct Cell<'a> {
     amounts: &'a [i64; SUBSTANCES],
@@ -29,27 +32,30 @@ struct Cell<'a> {
 }
 
 impl Cell<'_> {
-    // The level of the substance at place s, µg, rounded down.
-    fn level(&self, s: usize, microgram: Microgram) -> u32
-        requires place { s < substances }
-        requires within { nat_abs (amount_at self.now.amounts.now 0 s) / in_microgram microgram ≤ most_level }
-        ensures { result ≡ nat_abs (amount_at self.now.amounts.now 0 s) / in_microgram microgram }
-    {
-        microgram.level(self.amounts[s]) as u32
-    }
-
-    // The levels that a row has, in its order.
+    // The levels that a row has, in its order, rounded down.
     #[tactic(auto, unfolding(crate::specs::Pages::levels_at, stoichiometry::specs::Levels::level_of))]
-    fn levels(&self) -> [u32; Page::LEVELS]
-        ensures { result ≡ levels_at self.now.amounts.now 0 }
+    fn levels(&self) -> [Level; Page::LEVELS]
+        ensures { map (λ level. level.micrograms) result ≡ levels_at self.now.amounts.now 0 }
     {
         [
-            self.level(place::SS, Microgram::Organic),
-            self.level(place::NH4, Microgram::Nitrogen),
-            self.level(place::NO2, Microgram::Nitrogen),
-            self.level(place::NO3, Microgram::Nitrogen),
-            self.level(place::HPO4, Microgram::Phosphorus),
-            self.level(place::O2, Microgram::Oxygen),
+            Level {
+                micrograms: Microgram::Organic.level(self.amounts[place::SS]) as u32,
+            },
+            Level {
+                micrograms: Microgram::Nitrogen.level(self.amounts[place::NH4]) as u32,
+            },
+            Level {
+                micrograms: Microgram::Nitrogen.level(self.amounts[place::NO2]) as u32,
+            },
+            Level {
+                micrograms: Microgram::Nitrogen.level(self.amounts[place::NO3]) as u32,
+            },
+            Level {
+                micrograms: Microgram::Phosphorus.level(self.amounts[place::HPO4]) as u32,
+            },
+            Level {
+                micrograms: Microgram::Oxygen.level(self.amounts[place::O2]) as u32,
+            },
         ]
     }
 }
@@ -80,7 +86,8 @@ static JUSTIFIED: [[u8; 2]; 100] = [
     *b"96", *b"97", *b"98", *b"99",
 ];
 
-// A pair of each table, by value: where it is copied from the table itself, a page takes a fifth longer.
+// A pair of each table, by value: where it is copied from the table itself, a page takes a fifth longer. That n is below
+// 100 is asked: as a type it would be made for each pair and taken apart at once.
 #[tactic(auto, using(crate::proofs::FigureLaws::pair_at))]
 fn pair(n: u32) -> [u8; 2]
     requires { n < 100 }
@@ -109,11 +116,10 @@ fn whole(grams: u32) -> [[u8; 2]; 2]
 }
 
 // A level in its columns, pair by pair.
-fn level_pairs(level: u32) -> [[u8; 2]; Page::LEVEL_COLUMNS / 2]
-    requires { level ≤ most_level }
-    ensures { flat_map (λ x. x) result ≡ grams level }
+fn level_pairs(level: Level) -> [[u8; 2]; Page::LEVEL_COLUMNS / 2]
+    ensures { flat_map (λ x. x) result ≡ grams level.micrograms }
 {
-    let thousandths = level / 1000;
+    let thousandths = level.micrograms / 1000;
     let grams = thousandths / 1000;
     // Not `thousandths % 1000`, with which a page takes 6 % more instructions.
     let rest = thousandths - grams * 1000;
@@ -124,10 +130,13 @@ fn level_pairs(level: u32) -> [[u8; 2]; Page::LEVEL_COLUMNS / 2]
 
 // The levels of a row over their columns. In a loop: where all pairs are made first, by `map`, a page takes 1.9 times
 // as long, and by `from_fn` 1.2 times. Blocks are cut out by their place, here and in `write_rows`: nothing is known of
-// a text after `as_chunks_mut`, and a function with a closure for such loops would have to ask that it may be called.
-fn write_levels(text: &mut [u8], levels: &[u32; Page::LEVELS])
-    requires { (length text.old ≡ 6 * level_columns) × LevelsWithin levels.now }
-    ensures { text.new ≡ levels_text levels.now 6 }
+// a text after `as_chunks_mut`, and a function for both loops that calls a closure with each block is no plainer: it
+// asks how the closure may be called and what it leaves, and each closure says so once more. The length of a text is
+// asked, here and below: a `&mut [u8; N]` is cut out as an Option, and so the levels of a row, and each row, would have
+// a branch for a None that never comes.
+fn write_levels(text: &mut [u8], levels: &[Level; Page::LEVELS])
+    requires { length text.old ≡ 6 * level_columns }
+    ensures { text.new ≡ levels_text (map (λ level. level.micrograms) levels.now) 6 }
 {
     for (i, level) in levels.iter().enumerate() {
         let at = i * Page::LEVEL_COLUMNS;
@@ -136,9 +145,9 @@ fn write_levels(text: &mut [u8], levels: &[u32; Page::LEVELS])
 }
 
 // A row over its bytes.
-fn write_row(text: &mut [u8], cell: u8, letter: u8, levels: &[u32; Page::LEVELS])
-    requires { (length text.old ≡ row_bytes) × (cell < 10) × LevelsWithin levels.now }
-    ensures { text.new ≡ row cell letter levels.now }
+fn write_row(text: &mut [u8], cell: u8, letter: u8, levels: &[Level; Page::LEVELS])
+    requires { (length text.old ≡ row_bytes) × (cell < 10) }
+    ensures { text.new ≡ row cell letter (map (λ level. level.micrograms) levels.now) }
 {
     text[0] = b' ';
     text[1] = b'0' + cell;
@@ -154,7 +163,10 @@ fn write_cell(text: &mut [u8], c: usize, cell: &Cell)
     ensures { text.new ≡ cell_row c cell.now.amounts.now }
 {
     let levels = cell.levels();
-    let letter = letter_by(u64::from(levels[OXYGEN]), u64::from(levels[AMMONIUM]));
+    let letter = letter_by(
+        u64::from(levels[OXYGEN].micrograms),
+        u64::from(levels[AMMONIUM].micrograms),
+    );
     write_row(text, (c + 1) as u8, letter.byte(), &levels);
 }
 
@@ -165,9 +177,9 @@ pub(crate) fn write_rows(out: &mut [u8], checked: &Checked)
 {
     let river = checked.river;
     let (cells, _) = river.amounts.as_chunks::<SUBSTANCES>();
-    for c in 0..river.cells as usize {
+    for (c, amounts) in cells[..river.cells as usize].iter().enumerate() {
         let at = c * Page::ROW_BYTES;
-        let cell = Cell { amounts: &cells[c] };
+        let cell = Cell { amounts };
         write_cell(&mut out[at..at + Page::ROW_BYTES], c, &cell);
     }
 }

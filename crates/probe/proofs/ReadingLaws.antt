@@ -5,21 +5,20 @@ use mathlib.Core.Path.{◌≡◌, refl, sym, ap, ◌∙◌, subst}
 use Prim.Native.Nat.{ℕ, zero, suc, ◌+◌, ◌-◌, ◌*◌, ◌/◌, ◌%◌, ◌^◌, ◌≤◌, ◌<◌, zero-le}
 use native.Mathlib.Nat.{lt_of_lt_of_le, lt_of_le_of_lt, mul_assoc, mul_comm, mul_left_comm, mul-pos, mul-le-mul, mul-le-mul_left, mul-lt-mul_of_pos_right, div-eq_of_lt, div-le_self, div-div-eq-div-mul, mul-div-mul_left, zero-lt-suc, lt_of_mul-lt-mul_right, lt_of_not-le, lt_irrefl, le_of_lt, le_refl, mod-lt, zero-mul, mul-one, zero-add, div-le_of_le-mul}
 use native.Mathlib.Omega.{arith}
+use native.Mathlib.Decide.{dec_lt}
 use mathlib.Core.Bool.{Bool, true, false, not, ◌&&◌, ◌||◌, cond}
 use lib.IntN.{pos}
 use lib.Dec.{T, ltb, leb, eqb, ltb→lt, lit<, eqb-suc-zero}
 use lib.Pow.{pow-add, pow_pos, pow_mono}
 use lib.Ieee.{Float, nan, inf, fin, binary32, up, down, lt, le, eq, odd, of_fields, of_bits, to_bits, fits, is_nan}
 use lib.Ieee.Fits.{up_pos, down_pos, and_r}
-use borrow.Author.Tests.{lt-ltb, ne_eqb}
+use borrow.Author.Tests.{lt-ltb, le-ltb, ne_eqb}
 use lib.Ieee.Bits.{of_bits-to_bits}
 use lib.Ieee.Exact.{HasValue, odd_sign}
 use lib.Ieee.Nearest.{div_same}
+use Rattle.std.proofs.lemmas.Float.{T_from_true}
 use Rattle.probe.specs.Readings.{reading_fits, scaled_floor}
 use Rattle.stoichiometry.specs.Limits.{most_saturation}
-
-holds : {b : Bool} → b ≡ true → T b
-holds h = subst T (sym h) tt
 
 -- Any fraction a / b that the float equals gives the floor.
 cross : (u w a b c d : ℕ) → u * b ≡ a * w → u * c * (b * d) ≡ a * c * (w * d)
@@ -116,7 +115,7 @@ fields_of x c d F U C D =
     let b = to_bits binary32 x in
     let e : of_fields binary32 (leb 2147483648 b) (b % 2147483648 / 8388608) (b % 8388608) ≡ x = sym (of_bits_is b) ∙ of_bits-to_bits binary32 x F in
     subst (λ (y : Float). Fields y (b % 2147483648 / 8388608) (b % 8388608) c d) e
-    (by_field (leb 2147483648 b) (b % 2147483648 / 8388608) (b % 8388608) c d (mod-lt b (lit< tt)) C D (holds (ap reading_fits e ∙ U)))
+    (by_field (leb 2147483648 b) (b % 2147483648 / 8388608) (b % 8388608) c d (mod-lt b (lit< tt)) C D (T_from_true _ (ap reading_fits e ∙ U)))
 
 pub fits_64 : (n c : ℕ) → n < 8388608 → c ≤ most_saturation → (8388608 + n) * c < 2 ^ 64
 fits_64 n c N C = lt_of_le_of_lt (mul-le-mul (add_le N) C) (lit< tt)
@@ -128,10 +127,18 @@ fits_64 n c N C = lt_of_le_of_lt (mul-le-mul (add_le N) C) (lit< tt)
 pub shifted_out : (n d j : ℕ) → n < 2 ^ 64 → 64 ≤ j → n / d / 2 ^ j ≡ 0
 shifted_out n d j N J = div-eq_of_lt (lt_of_le_of_lt (div-le_self n d) (lt_of_lt_of_le N (pow_mono J)))
 
+-- So a shift that gives 0 from 64 on is the division.
+pub shifted_by : (n d j : ℕ) → n < 2 ^ 64 → cond (ltb j 64) (n / d / 2 ^ j) 0 ≡ n / d / 2 ^ j
+shifted_by n d j N = at (dec_lt j 64)
+  where
+    at : Dec (j < 64) → cond (ltb j 64) (n / d / 2 ^ j) 0 ≡ n / d / 2 ^ j
+    at (yes h) = rw (lt-ltb j 64 h) refl
+    at (no g) = rw (le-ltb j 64 (omega arith), shifted_out n d j N (omega arith)) refl
+
 -- A reading that fits is a number.
 pub no_nan : (x : Float) → reading_fits x ≡ true → T (not (is_nan x))
 unfolding reading_fits is_nan
-no_nan nan h = holds h
+no_nan nan h = T_from_true _ h
 no_nan (inf s) h = tt
 no_nan (fin s m e) h = tt
 
@@ -168,8 +175,9 @@ fits_below_zero x h = sym (ap (λ (b : Bool). b && lt x top32) h) ∙ fits_compa
 -- How large a floor can be.
 pub floor_bound : (x : Float) (c d : ℕ) → reading_fits x ≡ true → 0 < d → scaled_floor x c d ≤ 256 * c
 unfolding reading_fits scaled_floor
-floor_bound nan c d h D = absurd (holds h)
-floor_bound (inf s) c d h D = absurd (holds h)
+floor_bound nan c d h D = absurd (T_from_true _ h)
+floor_bound (inf s) c d h D = absurd (T_from_true _ h)
 floor_bound (fin s m e) c d h D =
-    let l : m * up e ≤ 256 * down e = le_of_lt (ltb→lt (m * up e) (256 * down e) (and_r (not s || eqb m 0) (ltb (m * up e) (256 * down e)) (holds h))) in
+    let below = and_r (not s || eqb m 0) (ltb (m * up e) (256 * down e)) (T_from_true _ h) in
+    let l : m * up e ≤ 256 * down e = le_of_lt (ltb→lt (m * up e) (256 * down e) below) in
     div-le_of_le-mul (down e * d) (omega (arith, mul-le-mul l (mul-le-mul (le_refl c) D)))

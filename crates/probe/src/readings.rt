@@ -7,11 +7,11 @@ use crate::Frame;
 
 // The f32 format: 23 bits of digits, then 8 of the exponent's field, then the sign. A normal number is
 // (DIGITS + digits) × 2 ^ (field − FIELD_OF_ONE_DIGIT); with field 0 it is below 2 ^ −126.
-const DIGITS: u64 = 8388608;
+const DIGITS: u32 = 8388608;
 
-const SIGN: u64 = 2147483648;
+const SIGN: u32 = 2147483648;
 
-const FIELD_OF_ONE_DIGIT: u64 = 150;
+const FIELD_OF_ONE_DIGIT: u32 = 150;
 
 // What a reading is multiplied by, a fraction: µg for a reading of one.
 #[derive(Clone, Copy)]
@@ -28,19 +28,18 @@ pub(crate) fn reading_fits(x: f32) -> bool
     x >= 0.0 && x < Frame::READING_END
 }
 
-// The exact value of x times the scale, rounded down. Readings of field 0 give less than one. A shift of 64 or more is
-// tested: with `unbounded_shr` the proof does not close.
+// The exact value of x times the scale, rounded down. Readings of field 0 give less than one.
 pub(crate) fn scaled_floor(x: f32, scale: Scale) -> u64
     requires { reading_fits x ≡ true }
     ensures { result ≡ scaled_floor x scale.numerator scale.denominator }
 {
-    let bits = f32::to_bits(x) as u64;
+    let bits = f32::to_bits(x);
     let digits = bits % DIGITS;
     let field = bits % SIGN / DIGITS;
     if field == 0 {
         return 0;
     }
-    let scaled = (DIGITS + digits) * scale.numerator / scale.denominator;
+    let scaled = u64::from(DIGITS + digits) * scale.numerator / scale.denominator;
     let shift = FIELD_OF_ONE_DIGIT - field;
-    if shift < 64 { scaled >> shift } else { 0 }
+    scaled.unbounded_shr(shift)
 }

@@ -1,10 +1,11 @@
 -- Laws of the lines of a record: lengths, the bytes before a value, the value on a line. No assumptions.
 use Prim.Native.Nat.{ℕ, ◌+◌, ◌-◌, ◌*◌, ◌≤◌, ◌<◌}
 use mathlib.Core.List.{List}
-use mathlib.Core.Path.{◌≡◌}
+use mathlib.Core.Path.{◌≡◌, refl, ◌∙◌}
+use native.Mathlib.Nat.{zero-add, zero-mul}
 use borrow.Author.Tests.{lt-ltb, le-ltb}
 use lib.IntN.{ℤ, pos}
-use lib.ListN.{length, length-append}
+use lib.ListN.{length, get_or, length-append}
 use Rattle.stoichiometry.specs.Substances.{substances}
 use Rattle.river.specs.declared.River.{River}
 use Rattle.stoichiometry.specs.Totals.{amount_at}
@@ -45,6 +46,14 @@ module _ (amounts : List ℤ) (carries : List ℕ) (c k : ℕ) where
   pub value_carry : substances ≤ k → value_of amounts carries c k ≡ pos (carry_at carries c (k - substances))
   unfolding value_of
   value_carry h = rw (le-ltb k substances h)
+
+-- The value on line k of a cell by its own amounts and carries: those of cell 0 of the two lists.
+module _ (amounts : List ℤ) (carries : List ℕ) (k : ℕ) where
+  pub own_amount : k < substances → value_of amounts carries 0 k ≡ get_or amounts k (pos 0)
+  own_amount h = value_amount amounts carries 0 k h ∙ rw (zero-mul, zero-add) refl
+
+  pub own_carry : substances ≤ k → value_of amounts carries 0 k ≡ pos (get_or carries (k - substances) 0)
+  own_carry h = value_carry amounts carries 0 k h ∙ rw (zero-mul, zero-add) refl
 
 -- The length of the record of a river.
 pub record_bytes : (r : River) → length (record_of r) ≡ r.cells * cell_bytes

@@ -8,7 +8,6 @@ ghost use Rattle.record.specs.Writing.{write_number, output_after, work_after};
 use crate::writing::write_cells;
 use river::River;
 use stoichiometry::{PROCESSES, Refusal, SUBSTANCES};
-use text::copy_bytes;
 
 mod writing;
 
@@ -48,6 +47,6 @@ pub fn write_record(river: River, output: &mut [u8], work: &mut [u8]) -> Result<
         return Err(Refusal::Space);
     }
     write_cells(output, &checked);
-    copy_bytes(output, bytes, work);
+    work[..bytes].copy_from_slice(&output[..bytes]);
     Ok(())
 }

@@ -2,18 +2,18 @@
 -- and what is read as a value is the line of it (`value_line`). Then a line as the code reads it: what stands before the
 -- value, the line feed, the value. No assumptions.
 use Prim.Native.Nat.{ℕ, ◌≤◌}
-use mathlib.Core.Bool.{Bool, true, false, ◌&&◌, cond, and-true, true≢false}
+use mathlib.Core.Bool.{Bool, true, false, ◌&&◌, cond, and_assoc, and-true, true≢false}
 use mathlib.Core.List.{List, [], ◌∷◌, ◌++◌, append_assoc}
-use mathlib.Core.Path.{◌≡◌, refl, sym, ap, ap₂, ◌∙◌}
+use mathlib.Core.Path.{◌≡◌, refl, sym, ap, ◌∙◌}
 use native.Mathlib.Omega.{arith}
-use borrow.Author.Tests.{eqb-true, eq-eqb}
 use lib.Dec.{eqb, ltb}
 use lib.IntN.{ℤ, pos, neg_ℤ, nat_abs}
 use lib.ListN.{length, get_or, length-append, length-take, length-drop}
 use lib.Seq.{take_at, take_all, drop_at, take-add, take-suc, get_or_at}
 use lib.Signed.{le_z}
-use Rattle.numeric.proofs.CheckLaws.{and_left, and_right}
 use Rattle.numeric.proofs.Machine.{kept}
+use Rattle.std.specs.Bool.{Decides}
+use Rattle.std.proofs.lemmas.Slice.Eq.{compares_Decides}
 use Rattle.std.specs.Prelude.{Option, Some, None, is_some, unwrap_or, option_and_then}
 use Rattle.text.proofs.BlockLaws.{part-tab}
 use Rattle.numeric.specs.Table.{tab}
@@ -28,21 +28,12 @@ use Rattle.record.proofs.LineLaws.{front_length}
 use Rattle.stoichiometry.specs.Substances.{substances, most_net}
 use Rattle.river.specs.Rivers.{most_carry}
 
--- A text is the same as itself.
-pub same_refl : (xs : List ℕ) → same_bytes xs xs ≡ true
+-- `same_bytes` decides that two texts are equal.
+same_bytes-Decides : (xs ys : List ℕ) → Decides (same_bytes xs ys) (xs ≡ ys)
 unfolding same_bytes
-same_refl [] = refl
-same_refl (x ∷ xs) = ap₂ ◌&&◌ (eq-eqb x x refl) (same_refl xs)
-
--- Texts that are the same, byte for byte, are equal.
-pub same_true : (xs ys : List ℕ) → same_bytes xs ys ≡ true → xs ≡ ys
-unfolding same_bytes
-same_true [] [] e = refl
-same_true [] (y ∷ ys) e = absurd (true≢false (sym e))
-same_true (x ∷ xs) [] e = absurd (true≢false (sym e))
-same_true (x ∷ xs) (y ∷ ys) e =
-    ap₂ (λ (b : ℕ) (l : List ℕ). b ∷ l) (eqb-true x y (and_left (eqb x y) (same_bytes xs ys) e))
-    (same_true xs ys (and_right (eqb x y) (same_bytes xs ys) e))
+same_bytes-Decides =
+    compares_Decides same_bytes
+    (record { empty = refl; shorter = λ y ys. refl; longer = λ x xs. refl; heads = λ x y xs ys. refl })
 
 -- The parts of a text of 6, 20 and 1 bytes.
 Parts : List ℕ → List ℕ → List ℕ → ℕ → Type 0
@@ -68,7 +59,7 @@ pub line_value_lem : (cell k : ℕ) (z lowest highest : ℤ) → le_z lowest z �
 unfolding line_value Parts
 line_value_lem cell k z lowest highest from to small =
     rw ((line-parts cell k z).1, parse-decimal lowest highest 18 z from to (omega arith) (omega arith))
-    (rw (same_refl (line cell k z)) refl)
+    (rw ((same_bytes-Decides (line cell k z) (line cell k z)).1 refl) refl)
 
 -- What is read as a value is the line of that value, which is within the limits.
 LineOf : List ℕ → ℕ → ℕ → ℤ → ℤ → ℤ → Type 0
@@ -90,7 +81,7 @@ value_line l cell k lowest highest = go (parse lowest highest (part 6 20 l)) (pa
       where
         at : (b : Bool) → same_bytes l (line cell k z) ≡ b
             → let m = cond b (Some z) None in is_some m ≡ true → LineOf l cell k lowest highest (unwrap_or m (pos 0))
-        at true same e = (same_true l (line cell k z) same, text.from, text.to)
+        at true same e = ((same_bytes-Decides l (line cell k z)).0 same, text.from, text.to)
         at false same e = absurd (true≢false (sym e))
 
 -- What stands before a value of a text, byte by byte: the columns of the cell, a blank, those of the line, a blank.
@@ -104,14 +95,6 @@ front_read : (l : List ℕ) (cell k : ℕ) → 6 ≤ length l
 unfolding same_bytes tab front plain columns
 front_read l cell k h = rw (part-tab l 0 6 h) (rw and-true)
 
--- Six tests one after the other.
-and_six : (a b c d e f : Bool) → (a && b && c && d && e && f) ≡ (a && (b && (c && (d && (e && f)))))
-and_six false b c d e f = refl
-and_six true false c d e f = refl
-and_six true true false d e f = refl
-and_six true true true false e f = refl
-and_six true true true true e f = refl
-
 -- The first six bytes are compared with the columns of the cell and of the line.
 pub front_compared : (l a b : List ℕ) (cell k : ℕ) → 6 ≤ length l → a ≡ plain 2 32 cell → b ≡ plain 2 32 k
     → (eqb (get_or l 0 0) (get_or a 0 0)
@@ -122,9 +105,7 @@ pub front_compared : (l a b : List ℕ) (cell k : ℕ) → 6 ≤ length l → a 
     && eqb (get_or l 5 0) 32)
     ≡ same_bytes (part 0 6 l) (front cell k)
 front_compared l a b cell k h ea eb =
-    and_six (eqb (get_or l 0 0) (get_or a 0 0)) (eqb (get_or l 1 0) (get_or a 1 0)) (eqb (get_or l 2 0) 32)
-    (eqb (get_or l 3 0) (get_or b 0 0)) (eqb (get_or l 4 0) (get_or b 1 0)) (eqb (get_or l 5 0) 32)
-    ∙ rw (ea, eb) (sym (front_read l cell k h))
+    simp and_assoc (rw (ea, eb) (sym (front_read l cell k h)))
 
 -- The limits of a line's value as the machine keeps them.
 pub limits_kept : (k : ℕ) → (kept (lowest_on k) ≡ lowest_on k) × (kept (highest_on k) ≡ highest_on k)
@@ -157,7 +138,7 @@ module _ (l : List ℕ) (long : length l ≡ line_bytes) where
       no_line h = go (parse lowest highest (part 6 20 l))
         where
           at : (z : ℤ) (b : Bool) → same_bytes l (line cell k z) ≡ b → cond b (Some z) None ≡ None
-          at z true e = absurd (h z (same_true l (line cell k z) e))
+          at z true e = absurd (h z ((same_bytes-Decides l (line cell k z)).0 e))
           at z false e = refl
 
           go : (n : Option ℤ) → option_and_then (λ z. cond (same_bytes l (line cell k z)) (Some z) None) n ≡ None
@@ -170,7 +151,7 @@ module _ (l : List ℕ) (long : length l ≡ line_bytes) where
       front_refused e =
           no_line (λ z q.
           let same = ap (part 0 6) q ∙ (line-parts cell k z).0 in
-          true≢false (sym (same_refl (front cell k)) ∙ ap (λ (a : List ℕ). same_bytes a (front cell k)) (sym same) ∙ e))
+          true≢false (sym ((same_bytes-Decides (part 0 6 l) (front cell k)).1 same) ∙ e))
 
       -- The last byte is no line feed.
       pub end_refused : (get_or l 26 0 ≡ 10 → ⊥) → line_value l cell k lowest highest ≡ None
@@ -189,7 +170,5 @@ module _ (l : List ℕ) (long : length l ≡ line_bytes) where
           go n (read z text) =
               let columns : part 6 20 l ≡ decimal 20 z = text.form ∙ ap (λ (w : ℕ). decimal w z) value_long in
               let same : l ≡ line cell k z =
-              whole ∙ rw (same_true (part 0 6 l) (front cell k) e, columns, feed) refl in
-              let right : same_bytes l (line cell k z) ≡ true =
-              ap (λ (a : List ℕ). same_bytes a (line cell k z)) same ∙ same_refl (line cell k z) in
-              ap (λ (b : Bool). cond b (Some z) None) right
+              whole ∙ rw ((same_bytes-Decides (part 0 6 l) (front cell k)).0 e, columns, feed) refl in
+              ap (λ (b : Bool). cond b (Some z) None) ((same_bytes-Decides l (line cell k z)).1 same)

@@ -1,14 +1,14 @@
 -- The answers of reading, by the tests in their order: which texts are records, and the number and the lines of a cell.
 -- No assumptions.
-use mathlib.Core.Path.{◌≡◌, refl, sym, ap, ◌∙◌}
+use mathlib.Core.Path.{◌≡◌, refl, sym, ◌∙◌}
 use mathlib.Core.Bool.{Bool, true, false, not, ◌&&◌}
 use mathlib.Core.List.{List, []}
 use Prim.Native.Nat.{ℕ, ◌+◌, ◌-◌, ◌*◌, ◌≤◌}
 use native.Mathlib.Omega.{arith}
 use borrow.Author.Tests.{ne_eqb, eqb-true, not-true}
 use lib.Dec.{eqb}
-use lib.ListN.{length, take, drop}
-use Rattle.std.specs.Prelude.{Ok, Err}
+use lib.ListN.{length}
+use Rattle.std.specs.Prelude.{Ok, Err, Some, None}
 use Rattle.stoichiometry.specs.declared.refusals.Refusal.{Refusal}
 use Rattle.stoichiometry.specs.declared.refusals.Refusal.TheVariants.{Text}
 use Rattle.numeric.specs.Check.{in_range, first_holding}
@@ -21,29 +21,43 @@ use Rattle.text.specs.Blocks.{part}
 use Rattle.record.specs.Lines.{cell_bytes}
 use Rattle.record_reading.specs.Reading.{cells_in, lines_right, river_in, is_record}
 use Rattle.record_reading.specs.Reading.{read_answer, cell_number, cell_lines}
+use Rattle.record_reading.specs.Inner.Stages.{size_right, cells_of}
 
 module _ (t : List ℕ) where
-  -- The test of the size, and the size of a text that passes.
-  abbrev pub size_right : Bool
-  size_right = cells_fit (cells_in t) && eqb (cells_in t * cell_bytes) (length t)
-
-  pub size_known : size_right ≡ true → (cells_in t ≤ most_cells) × (cells_in t * cell_bytes ≡ length t)
+  -- The size of a text that passes the test of it, and its cells.
+  pub size_known : size_right (length t) ≡ true → (cells_in t ≤ most_cells) × (cells_in t * cell_bytes ≡ length t)
   unfolding cells_fit
   size_known e =
       let cells = cells_fit (cells_in t) in
       let bytes = eqb (cells_in t * cell_bytes) (length t) in
       ((leb-within 1 (cells_in t) most_cells (and_left cells bytes e)).1, eqb-true _ _ (and_right cells bytes e))
 
+  pub cells_counted : (n : ℕ) → cells_of (length t) ≡ Some n → (size_right (length t) ≡ true) × (n ≡ cells_in t)
+  cells_counted n = go (size_right (length t)) refl
+    where
+      go : (b : Bool) → size_right (length t) ≡ b → cells_of (length t) ≡ Some n
+          → (size_right (length t) ≡ true) × (n ≡ cells_in t)
+      go true e h = let some = rw e at h in (e, cc)
+      go false e h = let none = rw e at h in absurd (cc)
+
+  pub cells_uncounted : cells_of (length t) ≡ None → size_right (length t) ≡ false
+  cells_uncounted = go (size_right (length t)) refl
+    where
+      go : (b : Bool) → size_right (length t) ≡ b → cells_of (length t) ≡ None → size_right (length t) ≡ false
+      go true e h = let some = rw e at h in absurd (cc)
+      go false e h = e
+
   -- What is known of a record.
   pub record-parts : is_record t ≡ true
-      → (size_right ≡ true) × (lines_right (cells_in t) t ≡ true) × (river_wrong (river_in t) ≡ false)
+      → (size_right (length t) ≡ true) × (lines_right (cells_in t) t ≡ true) × (river_wrong (river_in t) ≡ false)
   unfolding is_record
   record-parts e =
+      let size = size_right (length t) in
       let lines = lines_right (cells_in t) t in
       let bounds = not (river_wrong (river_in t)) in
-      let both = and_left (size_right && lines) bounds e in
-      let right = not-true _ (and_right (size_right && lines) bounds e) in
-      (and_left size_right lines both, and_right size_right lines both, right)
+      let both = and_left (size && lines) bounds e in
+      let right = not-true _ (and_right (size && lines) bounds e) in
+      (and_left size lines both, and_right size lines both, right)
 
   -- A record is answered with its river, every other text with 11.
   pub answer-accepted : is_record t ≡ true → read_answer t ≡ Ok (river_in t)
@@ -99,15 +113,6 @@ module _ (t : List ℕ) where
     pub lines_accepted : cell_number t cell ≡ 0 → cell_lines t cell ≡ part ((cell - 1) * cell_bytes) cell_bytes t
     unfolding cell_lines
     lines_accepted e = rw e refl
-
-    -- As the bytes from a start to an end.
-    pub lines_between : cell_number t cell ≡ 0
-        → take ((cell - 1) * cell_bytes + cell_bytes - (cell - 1) * cell_bytes) (drop ((cell - 1) * cell_bytes) t)
-        ≡ cell_lines t cell
-    lines_between e =
-        let start = (cell - 1) * cell_bytes in
-        let width : start + cell_bytes - start ≡ cell_bytes = omega arith in
-        ap (λ (n : ℕ). take n (drop start t)) width ∙ sym (lines_accepted e)
 
     pub lines_refused : (refusal : Refusal) → number refusal ≡ cell_number t cell → cell_lines t cell ≡ []
     unfolding cell_lines

@@ -8,11 +8,12 @@ use native.Mathlib.Omega.{arith}
 use borrow.Author.Tests.{lt-ltb, le-ltb}
 use lib.IntN.{pos, nat_abs}
 use lib.ListN.{length, get_or, set, take, drop}
+use mir.Syntax.{w64}
 use Rattle.std.proofs.lemmas.List.{take-take, drop-take, drop-drop}
 use lib.Signed.{◌≤ℤ◌}
 use Rattle.std.specs.Prelude.{ℤ, Option, Some, is_some, unwrap_or}
 use mir.Facts.{to_z-of_z}
-use Rattle.numeric.proofs.Bounds.{abs_from, abs_of_nonneg, fits_abs}
+use Rattle.numeric.proofs.Bounds.{abs_from, abs_of_nonneg}
 use Rattle.numeric.proofs.CheckLaws.{every_eq}
 use Rattle.numeric.proofs.Comparison.{le_z_true}
 use Rattle.numeric.proofs.Filling.{Filled, fill_more}
@@ -21,6 +22,7 @@ use Rattle.stoichiometry.specs.Substances.{substances, most_net}
 use Rattle.stoichiometry.specs.Rows.{processes}
 use Rattle.river.specs.Rivers.{most_carry}
 use Rattle.std.specs.Simd.{first_chunks}
+use Rattle.std.proofs.lemmas.Int.{fits_signed_from_abs}
 use Rattle.text.specs.Blocks.{part}
 use Rattle.numeric.proofs.ChunkLaws.{chunk_is}
 use Rattle.record.specs.Lines.{lines, line_bytes, cell_bytes}
@@ -106,7 +108,7 @@ module _ (t : List ℕ) (c k : ℕ) where
   value_kept z e =
       let same : number_in t c k ≡ z = ap (λ (o : Option ℤ). unwrap_or o (pos 0)) e in
       let small = value_small (value_some z e) in
-      to_z-of_z (fits_abs z (omega (arith, small, ap nat_abs same))) ∙ sym same
+      to_z-of_z (fits_signed_from_abs w64 z (omega (arith, small, ap nat_abs same))) ∙ sym same
 
 -- A line more of a cell, whose first lines are stored as amounts and those past them as carries.
 module _ {A : Type 0} (m : List A) (k : ℕ) (f : ℕ → A) where

@@ -5,8 +5,7 @@ ghost use Rattle.std.specs.Prelude.{◌≡◌, IfOk};
 ghost use Rattle.stoichiometry.specs.Refusals.{number_of};
 ghost use Rattle.record_reading.specs.Reading.{read_answer, cell_number, cell_lines};
 
-use crate::reading::{read_cells, size_fits};
-use numeric::in_range;
+use crate::reading::{cells_of, read_cells};
 use record::Record;
 use river::{AMOUNTS, CARRIES, River};
 use stoichiometry::{Refusal, number_of};
@@ -17,18 +16,12 @@ mod reading;
 pub fn read_record(text: &[u8]) -> Result<River, Refusal>
     ensures answer { result ≡ read_answer text.now }
 {
-    if !size_fits(text.len()) {
-        return Err(Refusal::Text);
-    }
-    let n = text.len() / Record::CELL_BYTES;
     let mut river = River {
-        cells: n as u32,
+        cells: cells_of(text.len()).ok_or(Refusal::Text)?,
         amounts: [0; AMOUNTS],
         carries: [0; CARRIES],
     };
-    let Some(()) = read_cells(text, &mut river) else {
-        return Err(Refusal::Text);
-    };
+    read_cells(text, &mut river).ok_or(Refusal::Text)?;
     if !river.fits() {
         return Err(Refusal::Text);
     }
@@ -41,11 +34,9 @@ fn part_of(text: &[u8], cell: u32) -> Result<&[u8], Refusal>
     ensures lines { IfOk result (λ part. part.now ≡ cell_lines text.now cell) }
 {
     let river = read_record(text)?;
-    if !in_range(1, river.cells, cell) {
-        return Err(Refusal::Place);
-    }
-    let start = (cell - 1) as usize * Record::CELL_BYTES;
-    Ok(&text[start..start + Record::CELL_BYTES])
+    let c = river.place_of(cell)?;
+    let (cells, _) = text.as_chunks::<{ Record::CELL_BYTES }>();
+    Ok(&cells[c])
 }
 
 // The number that goes with `lines_of_cell`: 11, then 5, or 0. Cells are counted from 1. The scope asks for the part of

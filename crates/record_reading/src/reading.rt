@@ -1,5 +1,5 @@
 // Lines read strictly from a text, cell by cell.
-ghost use Rattle.std.specs.Prelude.{◌≡◌, ◌&&◌, ◌+◌, ◌*◌, ◌/◌, ◌≤◌, ◌<◌, eqb, replicate, pos, is_some, OnSome};
+ghost use Rattle.std.specs.Prelude.{◌≡◌, ◌+◌, ◌≤◌, ◌<◌, is_some, OnSome};
 ghost use Rattle.stoichiometry.specs.Rows.{processes};
 ghost use Rattle.stoichiometry.specs.Substances.{substances};
 ghost use Rattle.river.specs.Rivers.{cells_fit, zero_river, most_cells};
@@ -7,7 +7,7 @@ ghost use Rattle.text.specs.Blocks.{part};
 ghost use Rattle.record.specs.Lines.{front, lines, cell_bytes};
 ghost use Rattle.record_reading.specs.Reading.{same_bytes, line_value, lowest_on, highest_on};
 ghost use Rattle.record_reading.specs.Reading.{cells_in, lines_right, amounts_in, carries_in};
-ghost use Rattle.record_reading.specs.Inner.Stages.{cell_found, amounts_found, carries_found};
+ghost use Rattle.record_reading.specs.Inner.Stages.{cell_found, amounts_found, carries_found, cells_of};
 
 use record::Record;
 use river::River;
@@ -56,7 +56,8 @@ fn line_value(line: &[u8; Record::LINE_BYTES], cell: u32, k: usize) -> Option<i6
 }
 
 // Writes the amounts and then the carries of cell c, counted from 0, if each of its lines has its value. One loop over
-// all lines, so that a line is read from one place only and the compiler sets the reading of it into the loop.
+// all lines, so that a line is read from one place only and the compiler sets the reading of it into the loop. Written by
+// place: the amounts end and the carries begin among the lines.
 fn read_cell(
     text: &[u8; Record::CELL_BYTES],
     c: usize,
@@ -102,11 +103,15 @@ pub(crate) fn read_cells(text: &[u8], river: &mut River) -> Option<()>
     Some(())
 }
 
-// A text of this many bytes is of 1 to 8 cells.
+// How many cells a text of this many bytes is of: 1 to 8, and no byte more; none for any other.
 #[tactic(auto, unfolding(river::specs::Rivers::cells_fit))]
-pub(crate) fn size_fits(bytes: usize) -> bool
-    ensures { result ≡ (cells_fit (bytes / cell_bytes) && eqb (bytes / cell_bytes * cell_bytes) bytes) }
+pub(crate) fn cells_of(bytes: usize) -> Option<u32>
+    ensures { result ≡ cells_of bytes }
 {
     let n = bytes / Record::CELL_BYTES;
-    (1..=River::CELLS_MOST).contains(&n) && n * Record::CELL_BYTES == bytes
+    if (1..=River::CELLS_MOST).contains(&n) && bytes.is_multiple_of(Record::CELL_BYTES) {
+        Some(n as u32)
+    } else {
+        None
+    }
 }

@@ -4,9 +4,11 @@ use Prim.Native.Nat.{ℕ, min, ◌<◌, ◌≤◌, ◌+◌, ◌-◌, ◌*◌, �
 use mathlib.Core.Bool.{not, Bool, true, false, ◌&&◌, cond, true≢false}
 use mathlib.Core.List.{List, []}
 use Rattle.std.proofs.lemmas.List.{ext_get_or}
+use Rattle.std.proofs.lemmas.Bool.Decides.{same_from_decides}
 use Rattle.std.specs.List.{AllWithin, HoldsAt, EachIndex}
 use Rattle.std.specs.Bool.{Decides, MatchBool}
 use Rattle.std.specs.Simd.{first_chunks}
+use Rattle.std.proofs.lemmas.Int.{fits_signed_from_abs}
 use Rattle.numeric.proofs.ChunkLaws.{chunk_at}
 use Rattle.numeric.proofs.Filling.{replicate_at}
 use mathlib.Core.Path.{◌≡◌, refl, sym, ap, ap₂, ◌∙◌}
@@ -22,8 +24,8 @@ use mir.Facts.{to_z-of_z}
 use mir.Syntax.{w64}
 use mir.Val.{SFits}
 use Rattle.numeric.specs.Check.{every}
-use Rattle.numeric.proofs.Bounds.{abs_zero, fits_abs}
-use Rattle.numeric.proofs.CheckLaws.{and_left, and_right, leb-within, every_at, every_all, every_eq, every-rows}
+use Rattle.numeric.proofs.Bounds.{abs_zero}
+use Rattle.numeric.proofs.CheckLaws.{and_left, and_right, leb-within, every-Decides, every_eq, every-rows}
 use Rattle.numeric.proofs.CheckLaws.{split_at, split_all}
 use Rattle.numeric.proofs.Machine.{kept}
 use Rattle.stoichiometry.specs.Substances.{substances, most_net}
@@ -45,25 +47,17 @@ abbrev pub CarryPlaced : ℕ → List ℕ → ℕ → Type 0
 CarryPlaced n carries k =
     (k < n * processes → get_or carries k 0 ≤ most_carry) × (n * processes ≤ k → get_or carries k 0 ≡ 0)
 
--- An answer that says whether every test below n is passed.
-pub every_decided : (b : Bool) (n : ℕ) (p : ℕ → Bool) → (b ≡ true → (k : ℕ) → k < n → p k ≡ true)
-    → (((k : ℕ) → k < n → p k ≡ true) → b ≡ true) → b ≡ every n p
-every_decided true n p passed all = sym (every_all n p (passed refl))
-every_decided false n p passed all = by_test (every n p) refl
-  where
-    by_test : (e : Bool) → every n p ≡ e → false ≡ e
-    by_test true e = all (λ k h. every_at n k p e h)
-    by_test false e = refl
-
 -- A cell is zeros, where a list of its length tells by being one of zeros.
 pub zeros_decided : (cell : List ℤ) (b : Bool) → length cell ≡ substances
     → Decides b (cell ≡ replicate substances (pos 0)) → b ≡ cell_empty cell
 zeros_decided cell b long same =
-    every_decided b substances _
-    (λ e s l. rw (same.0 e, replicate_at substances s (pos 0)) refl)
-    (λ e.
-    same.1 (ext_get_or (pos 0) cell (replicate substances (pos 0)) long
-    (λ i l. abs_zero _ (eqb-true _ 0 (e i (rw long at l))) ∙ sym (replicate_at substances i (pos 0)))))
+    same_from_decides b _ (
+      λ e s l. rw (same.0 e, replicate_at substances s (pos 0)) refl,
+      λ e.
+          same.1 (ext_get_or (pos 0) cell (replicate substances (pos 0)) long
+          (λ i l. abs_zero _ (eqb-true _ 0 (e i (rw long at l))) ∙ sym (replicate_at substances i (pos 0)))),
+    )
+    (every-Decides substances (λ s. eqb (nat_abs (get_or cell s (pos 0))) 0))
 
 -- An answer that says whether every cell of a list passes a test; so does that of `all`.
 abbrev pub Says : (List ℤ → Bool) → List (List ℤ) → Bool → Type 0
@@ -78,6 +72,15 @@ pub all_says : (p : List ℤ → Bool) (cells : List (List ℤ)) (b : Bool)
 all_says p cells true told = (λ e k l. told k [] zero-le l, λ all. refl)
 all_says p cells false (k, l, fails) =
     (λ e. absurd (true≢false (sym e)), λ all. absurd (true≢false (sym (all k l) ∙ fails [])))
+
+-- Amount s of cell c, where amounts are cut into cells; and carry p.
+pub amount_cut : (n : ℕ) (amounts : List ℤ) (cells : List (List ℤ)) → cells ≡ first_chunks substances n amounts
+    → (c : ℕ) → c < n → (s : ℕ) → s < substances → get_or (get_or cells c []) s (pos 0) ≡ amount_at amounts c s
+amount_cut n amounts cells cut c h s l = rw cut (chunk_at substances n amounts c s (pos 0) h l)
+
+pub carry_cut : (n : ℕ) (carries : List ℕ) (cells : List (List ℕ)) → cells ≡ first_chunks processes n carries
+    → (c : ℕ) → c < n → (p : ℕ) → p < processes → get_or (get_or cells c []) p 0 ≡ carry_at carries c p
+carry_cut n carries cells cut c h p l = rw cut (chunk_at processes n carries c p 0 h l)
 
 -- Cell c of all amounts.
 abbrev pub cell_of : List ℤ → ℕ → List ℤ
@@ -107,16 +110,19 @@ module _ (n : ℕ) (amounts : List ℤ) where
   amounts-cells =
       every-rows most_cells substances (λ k. cond (ltb (k / substances) n) (inside k) (empty k))
       ∙ every_eq most_cells _ _ (λ c l.
-      every_eq substances _ _ (λ s i. rw (digits_div c i, digits_mod c i, ← chunk_at substances most_cells amounts c s (pos 0) l i))
+      every_eq substances _ _
+      (λ s i. rw (digits_div c i, digits_mod c i, ← amount_cut most_cells amounts _ refl c l s i))
       ∙ every_either (ltb c n) substances (λ s. amount_fits s (get_or (cell_of amounts c) s (pos 0))) _)
 
   -- An answer that says whether every cell is.
   amounts_decided : (b : Bool) → (b ≡ true → (c : ℕ) → c < most_cells → CellPlaced c)
       → (((c : ℕ) → c < most_cells → CellPlaced c) → b ≡ true) → b ≡ amounts_fit n amounts
   amounts_decided b passed all =
-      every_decided b most_cells cell_placed
-      (λ e c l. by_test (ltb c n) c refl (passed e c l))
-      (λ e. all (λ c l. (λ i. rw (lt-ltb c n i) at (e c l), λ i. rw (le-ltb c n i) at (e c l))))
+      same_from_decides b (every most_cells cell_placed) (
+        λ e c l. by_test (ltb c n) c refl (passed e c l),
+        λ e. all (λ c l. (λ i. rw (lt-ltb c n i) at (e c l), λ i. rw (le-ltb c n i) at (e c l))),
+      )
+      (every-Decides most_cells cell_placed)
       ∙ sym amounts-cells
     where
       by_test : (t : Bool) (c : ℕ) → ltb c n ≡ t → CellPlaced c
@@ -207,7 +213,8 @@ module _ (n : ℕ) (carries : List ℕ) where
         → (EachIndex (take end carries) (λ k. get_or (take end carries) k 0 ≤ most_carry)
         → EachIndex (drop end carries) (λ k. get_or (drop end carries) k 0 ≡ 0) → b ≡ true)
         → b ≡ carries_fit n carries
-    carries_tested b front back both = by_answer b refl
+    carries_tested b front back both =
+        same_from_decides b (carries_fit n carries) (placed, all) (carries_at, carries_from)
       where
         placed : b ≡ true → (k : ℕ) → k < most_cells * processes → CarryPlaced n carries k
         placed e k l = (
@@ -229,14 +236,6 @@ module _ (n : ℕ) (carries : List ℕ) where
             (λ k l.
             let inside : k < length carries - end = simp length-drop at l in
             rw (get_or-drop end carries k 0) ((h (end + k) (omega arith)).1 (omega arith)))
-
-        by_answer : (t : Bool) → b ≡ t → b ≡ carries_fit n carries
-        by_answer true e = e ∙ sym (carries_from (placed e))
-        by_answer false e = e ∙ by_test (carries_fit n carries) refl
-          where
-            by_test : (t : Bool) → carries_fit n carries ≡ t → false ≡ t
-            by_test true f = sym e ∙ all (carries_at f)
-            by_test false f = refl
 
 -- When check 4 does not hold.
 pub river_fits_lem : (r : River) → 1 ≤ r.cells → r.cells ≤ most_cells
@@ -327,12 +326,12 @@ module _ (r : River) (right : river_wrong r ≡ false) where
         below = omega arith;
         fits = amount_fits_at (cell - 1) s (omega arith) l;
         small = size;
-        same = to_z-of_z (fits_abs _ (omega arith));
+        same = to_z-of_z (fits_signed_from_abs w64 _ (omega arith));
       }
 
 -- What is in its bounds fits 64 bits.
 pub fits_machine : (s : ℕ) (x : ℤ) → s < substances → amount_fits s x ≡ true → SFits w64 x
-fits_machine s x l e = fits_abs x (omega (arith, fits_bound s x l e))
+fits_machine s x l e = fits_signed_from_abs w64 x (omega (arith, fits_bound s x l e))
 
 -- A cell that exists is one of the river's, and a substance that exists one of the 18.
 pub cell_bound : (r : River) (cell : ℕ) → cell_exists r cell ≡ true → (1 ≤ cell) × (cell ≤ r.cells)

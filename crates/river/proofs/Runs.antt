@@ -65,16 +65,6 @@ module _ (cell : List ℤ) (n : ℕ) where
       → every n (λ s. amount_fits s (get_or cell s (pos 0))) ≡ true
   run-every all = every_all n _ (λ s before. all s zero-le before)
 
-  -- An answer that says whether they fit.
-  pub run_decides : (t : Bool) → (t ≡ true → RunFits cell 0 n) → (t ≡ false → RunFits cell 0 n → ⊥)
-      → t ≡ every n (λ s. amount_fits s (get_or cell s (pos 0)))
-  run_decides true fit other = sym (run-every (fit refl))
-  run_decides false fit other = by_test (every n _) refl
-    where
-      by_test : (e : Bool) → every n (λ s. amount_fits s (get_or cell s (pos 0))) ≡ e → false ≡ e
-      by_test true all = absurd (other refl (λ s from before. every_at n s _ all before))
-      by_test false none = refl
-
 module _ (amounts : List ℤ) where
   pub covers_none : (z : ℤ) → CoversFirst amounts 0 z
   covers_none z h i before = let no : ⊥ = omega arith in absurd no

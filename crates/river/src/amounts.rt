@@ -51,7 +51,8 @@ pub fn amount_fits(place: usize, amount: i64) -> bool
     bounds(place).contains(&amount)
 }
 
-// The amounts of a cell of the substances at places `first` to `end` - 1 are in their bounds, tested one by one.
+// The amounts of a cell of the substances at places `first` to `end` - 1 are in their bounds, tested one by one. By their
+// places, here and in `run_fits`, and not as a part of the cell: a place says which bounds hold.
 fn each_amount_fits(cell: &[i64; SUBSTANCES], first: usize, end: usize) -> bool
     requires { (first ≤ end) × (end ≤ substances) }
     ensures fit { result ≡ true → RunFits cell.now first end }

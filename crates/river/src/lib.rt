@@ -3,7 +3,7 @@
 
 ghost use Rattle.std.specs.Prelude.{◌≡◌};
 ghost use Rattle.river.specs.Rivers.{river_fits, fresh_answer};
-ghost use Rattle.river.specs.Checked.{river_of, checked_answer};
+ghost use Rattle.river.specs.Checked.{river_of, checked_answer, place_answer};
 ghost use Rattle.river.specs.Cells.{byte, letter_by, letter_answer};
 
 use crate::carries::carries_fit;
@@ -85,6 +85,17 @@ impl River {
         }
         Ok(Checked { river: self })
     }
+
+    // Check 5 as a call: the place, from 0, of the cell of this number, 1 to the number of cells. Refuses with 5.
+    #[tactic(auto, unfolding(crate::specs::Checked::place_answer, numeric::specs::Check::first_holding))]
+    pub fn place_of(&self, cell: u32) -> Result<usize, Refusal>
+        ensures answer { result ≡ place_answer self.now cell }
+    {
+        if !in_range(1, self.cells, cell) {
+            return Err(Refusal::Place);
+        }
+        Ok((cell - 1) as usize)
+    }
 }
 
 // The letter of a cell, by its byte of ASCII.
@@ -101,7 +112,7 @@ impl Letter {
 
     pub const AMMONIUM_MOST: u64 = 1000000;
 
-    // The byte of ASCII.
+    // The byte of ASCII. By that name: `u8::from(letter)` would not say that it is one.
     pub fn byte(self) -> u8
         ensures answer { result ≡ byte self }
     {
@@ -125,16 +136,14 @@ pub fn letter_by(oxygen: u64, ammonium: u64) -> Letter
 
 // The letter of a cell, 1 to the number of cells: L where the level of O2 is below 2,000,000 µg, N where that of NH4 is
 // above 1,000,000 µg, else a hyphen. Refuses with 4 and 5.
-#[tactic(auto, using(crate::proofs::CheckedLaws::four_holds, crate::proofs::CheckedLaws::four_passed), unfolding(crate::specs::Cells::letter_answer, crate::specs::Cells::letter_number, crate::specs::Cells::letter_of, stoichiometry::specs::Levels::level_of, numeric::specs::Check::first_holding))]
+#[tactic(auto, using(crate::proofs::CheckedLaws::four_holds, crate::proofs::CheckedLaws::four_passed, crate::proofs::CheckedLaws::five_holds, crate::proofs::CheckedLaws::five_passed), unfolding(crate::specs::Cells::letter_answer, crate::specs::Cells::letter_number, crate::specs::Cells::letter_of, stoichiometry::specs::Levels::level_of, numeric::specs::Check::first_holding))]
 pub fn letter_of(river: River, cell: u32) -> Result<Letter, Refusal>
     ensures answer { result ≡ letter_answer river cell }
 {
     river.checked()?;
-    if !in_range(1, river.cells, cell) {
-        return Err(Refusal::Place);
-    }
-    let start = (cell - 1) as usize * SUBSTANCES;
-    let oxygen = Microgram::Oxygen.level(river.amounts[start + place::O2]);
-    let ammonium = Microgram::Nitrogen.level(river.amounts[start + place::NH4]);
+    let c = river.place_of(cell)?;
+    let (cells, _) = river.amounts.as_chunks::<SUBSTANCES>();
+    let oxygen = Microgram::Oxygen.level(cells[c][place::O2]);
+    let ammonium = Microgram::Nitrogen.level(cells[c][place::NH4]);
     Ok(letter_by(oxygen, ammonium))
 }

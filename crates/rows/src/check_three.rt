@@ -42,8 +42,8 @@ fn consume_o2(oxygen: &[i64; PROCESSES]) -> bool
 }
 
 // Check 3: E of a process 1 to 10 or 13 is not below zero, or 14 or 15 takes up NH4, HPO4, O2 or HCO3. No loop goes
-// through a list of what is asked of each process: then no place of an entry is a constant, and `rows_of` takes a fourth
-// more time.
+// through a list of what is asked of each process: then no place of an entry is a constant, and `rows_of` takes 1.15 times
+// as long.
 #[tactic(auto, unfolding(crate::specs::Inner::Code::wrong_of))]
 pub(crate) fn rows_wrong(entries: &[i64; ENTRIES], oxygen: &[i64; PROCESSES]) -> bool
     ensures { result ≡ wrong_of entries.now oxygen.now }

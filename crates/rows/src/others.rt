@@ -1,25 +1,12 @@
 // The changes of a row's substances that are no organics, without a division.
 ghost use Rattle.std.specs.Prelude.{◌≡◌, ◌≤◌, nat_abs};
-ghost use Rattle.rows.specs.Inner.Code.{Thousandths, InReleased, InFurther, InKind, kind_of};
-ghost use Rattle.rows.specs.Inner.Code.{released_by, most_fifteenth, fifteenth_of, others_of, others_from};
+ghost use Rattle.rows.specs.Inner.Code.{InFurther, kind_of, released_by};
+ghost use Rattle.rows.specs.Inner.Code.{most_fifteenth, fifteenth_of, others_of, others_from};
+ghost use Rattle.rows.specs.Inner.Held.{elements_of, numbers_of};
 
-use crate::released::{Released, released_by};
+use crate::kind::Kind;
+use crate::released::{Content, Released};
 use stoichiometry::{Acceptor, Fractions, Further, Nitrogen};
-
-// What a row does besides its closure: nitrogen as nitrate, as nitrite (0 or 1); NH4 oxidised to NO2, NO2 to NO3 (m is
-// 22,320 times that); HPO4 adsorbed, grains; the acceptor: NO3 to NO2, NO2 to N2, NO3 to N2 (0 or 1). Numbers and no enums,
-// so that each change below is one sum for all processes; of the enums each would be a match of its own.
-#[derive(Clone, Copy)]
-pub(crate) struct Kind {
-    pub nitrate: i64,
-    pub nitrite: i64,
-    pub nh4no2: i64,
-    pub no2no3: i64,
-    pub adsorbed: i64,
-    pub no3no2: i64,
-    pub no2n2: i64,
-    pub no3n2: i64,
-}
 
 // The changes of the substances that are no organics, grains, and E.
 #[derive(Clone, Copy)]
@@ -37,44 +24,9 @@ pub(crate) struct Others {
     pub e: i64,
 }
 
-// The nitrogen's form, what is turned over besides and the acceptor as numbers. Where the three are constants, a compiler
-// drops the products with 0.
-fn kind_of(n: Nitrogen, f: Further, a: Acceptor) -> Kind
-    ensures { result ≡ kind_of n f a }
-{
-    let (nitrate, nitrite) = match n {
-        Nitrogen::Nh4 => (0, 0),
-        Nitrogen::No3 => (1, 0),
-        Nitrogen::No2 => (0, 1),
-    };
-    let (nh4no2, no2no3, adsorbed) = match f {
-        Further::Nothing => (0, 0, 0),
-        Further::Nh4ToNo2(k) => (k, 0, 0),
-        Further::No2ToNo3(k) => (0, k, 0),
-        Further::Adsorbed(x) => (0, 0, x),
-    };
-    let (no3no2, no2n2, no3n2) = match a {
-        Acceptor::Oxygen => (0, 0, 0),
-        Acceptor::No3ToNo2 => (1, 0, 0),
-        Acceptor::No2ToN2 => (0, 1, 0),
-        Acceptor::No3ToN2 => (0, 0, 1),
-    };
-    Kind {
-        nitrate,
-        nitrite,
-        nh4no2,
-        no2no3,
-        adsorbed,
-        no3no2,
-        no2n2,
-        no3n2,
-    }
-}
-
 // E / 15, which is whole: every E is a multiple of 15.
 fn fifteenth(r: Released, k: Kind) -> i64
-    requires { InReleased r × InKind k }
-    ensures { result ≡ fifteenth_of r k }
+    ensures { result ≡ fifteenth_of (elements_of r) (numbers_of k) }
 {
     let Released { c, h, o, n, p } = r;
     let Kind {
@@ -93,8 +45,8 @@ fn fifteenth(r: Released, k: Kind) -> i64
 
 // The changes of the substances that are no organics, from e = E / 15.
 fn other_changes(r: Released, k: Kind, e: i64) -> Others
-    requires { InReleased r × InKind k × (nat_abs e ≤ most_fifteenth) }
-    ensures { result ≡ others_of r k e }
+    requires { nat_abs e ≤ most_fifteenth }
+    ensures { result ≡ others_of (elements_of r) (numbers_of k) e }
 {
     let Released { c, h, n, p, .. } = r;
     let Kind {
@@ -136,20 +88,20 @@ fn other_changes(r: Released, k: Kind, e: i64) -> Others
 // acceptor. Nine parameters, since the organics in a struct take 1.8 to 4 times as long, and the three enums in one 3 times.
 pub(crate) fn others_of(
     x: i32,
-    fx: Fractions,
+    fx: Content,
     y: i32,
-    fy: Fractions,
+    fy: Content,
     z: i32,
-    fz: Fractions,
+    fz: Content,
     n: Nitrogen,
     f: Further,
     a: Acceptor,
 ) -> Others
-    requires { Thousandths fx × Thousandths fy × Thousandths fz × InFurther f }
-    ensures { result ≡ others_from (released_by x fx y fy z fz) (kind_of n f a) }
+    requires { InFurther f }
+    ensures { result ≡ others_from (released_by x fx.of y fy.of z fz.of) (kind_of n f a) }
 {
-    let r = released_by(x, fx, y, fy, z, fz);
-    let k = kind_of(n, f, a);
+    let r = Released::by(x, fx, y, fy, z, fz);
+    let k = Kind::of(n, f, a);
     let e = fifteenth(r, k);
     other_changes(r, k, e)
 }

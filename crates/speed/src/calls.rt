@@ -38,31 +38,19 @@ fn pages(turns: u64) -> u64 {
 // The checksum of the calls that are asked for.
 pub(crate) fn checksum_of(order: Order) -> Result<u64, Refusal> {
     let turns = order.turns;
-    // The arms take different arguments, so that a table of closures is no plainer.
+    // Rivers, sets, records or readings are prepared by arm, so that a table of functions is no plainer.
     let sum = match order.kind {
         Kind::Nothing => Checksum::of_turns(turns, &rivers(), |river, before| {
             before.with(u64::from(river.cells))
         }),
         Kind::Step => steps(turns)?,
-        Kind::Flow => Checksum::of_turns(turns, &rivers(), |river, before| {
-            flow_turn(*river, before)
-        }),
-        Kind::Air => Checksum::of_turns(turns, &rivers(), |river, before| {
-            air_turn(*river, before)
-        }),
-        Kind::Load => Checksum::of_turns(turns, &rivers(), |river, before| {
-            load_turn(*river, before)
-        }),
-        Kind::Rows => Checksum::of_turns(turns, &sets()?, |set, before| {
-            rows_turn(*set, before)
-        }),
+        Kind::Flow => Checksum::of_turns(turns, &rivers(), flow_turn),
+        Kind::Air => Checksum::of_turns(turns, &rivers(), air_turn),
+        Kind::Load => Checksum::of_turns(turns, &rivers(), load_turn),
+        Kind::Rows => Checksum::of_turns(turns, &sets()?, rows_turn),
         Kind::Write => writes(turns),
-        Kind::Read => Checksum::of_turns(turns, &records_of(rivers()), |record, before| {
-            read_turn(record, before)
-        }),
-        Kind::Frame => Checksum::of_turns(turns, &[readings()], |readings, before| {
-            frame_turn(readings, before)
-        }),
+        Kind::Read => Checksum::of_turns(turns, &records_of(rivers()), read_turn),
+        Kind::Frame => Checksum::of_turns(turns, &[readings()], frame_turn),
         Kind::Page => pages(turns),
     };
     Ok(sum)

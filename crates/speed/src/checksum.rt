@@ -12,7 +12,8 @@ pub(crate) struct Checksum {
 }
 
 impl Checksum {
-    // The checksum of so many turns. They take what is prepared for them in turn.
+    // The checksum of so many turns. They take what is prepared for them in turn, by its place: by `zip` and `cycle` a
+    // turn that makes no call takes 1.36 of the time, which is in the time of every kind.
     pub(crate) fn of_turns<P, F: FnMut(&P, Checksum) -> Checksum>(
         turns: u64,
         prepared: &[P],
@@ -48,14 +49,19 @@ impl Checksum {
         self.with(u64::from(number_of(answer)))
     }
 
+    // With the number that one part of each block of a list gives; a block has `parts` parts.
+    fn with_each<T: Copy, F: Fn(T) -> u64>(self, list: &[T], parts: usize, number: F) -> Checksum
+        requires parts { 0 < parts }
+        requires callable { F.IsAlwaysCallable number }
+    {
+        let k = (self.turn % parts as u64) as usize;
+        list.chunks_exact(parts)
+            .fold(self, |sum, block| sum.with(number(block[k])))
+    }
+
     // With the amounts of one substance in all cells.
     pub(crate) fn with_amounts(self, amounts: &[i64; AMOUNTS]) -> Checksum {
-        let k = (self.turn % SUBSTANCES as u64) as usize;
-        let mut with_all = self;
-        for cell in amounts.chunks_exact(SUBSTANCES) {
-            with_all = with_all.with_signed(cell[k]);
-        }
-        with_all
+        self.with_each(amounts, SUBSTANCES, i64::cast_unsigned)
     }
 
     // With one carry.
@@ -70,14 +76,9 @@ impl Checksum {
     }
 
     // With one byte of each cell, of a text that has `width` bytes for each.
-    pub(crate) fn with_text(self, text: &[u8], width: u64) -> Checksum
+    pub(crate) fn with_text(self, text: &[u8], width: usize) -> Checksum
         requires { 0 < width }
     {
-        let k = (self.turn % width) as usize;
-        let mut with_all = self;
-        for cell in text.chunks_exact(width as usize) {
-            with_all = with_all.with(u64::from(cell[k]));
-        }
-        with_all
+        self.with_each(text, width, u64::from)
     }
 }

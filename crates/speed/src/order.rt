@@ -49,6 +49,8 @@ pub(crate) struct Order {
 // No more turns than this are made: from there on a digit changes nothing.
 const MOST: u64 = 1000000000;
 
+// Each program has such a function, with an end of its own: programs share only crates below them, and one for it would
+// have to promise it, for one expression.
 fn with_digit(turns: u64, byte: u8) -> u64 {
     match byte {
         b'0'..=b'9' if turns < MOST => turns * 10 + u64::from(byte - b'0'),

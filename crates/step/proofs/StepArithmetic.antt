@@ -8,8 +8,9 @@ use lib.IntN.{ℤ, pos, nat_abs, ◌+ℤ◌, ◌*ℤ◌, +ℤ_assoc, +ℤ_idr}
 use mir.Facts.{to_z-of_z}
 use mir.Syntax.{w64}
 use mir.Val.{SFits}
+use Rattle.std.proofs.lemmas.Int.{fits_signed_from_abs}
 use Rattle.numeric.specs.Sum.{sum}
-use Rattle.numeric.proofs.Bounds.{abs_add, abs_mul_le, fits_abs}
+use Rattle.numeric.proofs.Bounds.{abs_add, abs_mul_le}
 use Rattle.numeric.proofs.Machine.{kept}
 use Rattle.numeric.proofs.SumLaws.{sum-none, sum_more, sum_bound}
 use Rattle.stoichiometry.specs.Rows.{processes}
@@ -36,10 +37,10 @@ module _ (whole entries : List ℤ) (batches : BatchesFit whole) (rows : Entries
       let batch = batches.most p k in
       let entry = rows.bounded.each (p * substances + s) in
       rw (
-        to_z-of_z (fits_abs (get_or whole p (pos 0)) (omega (arith, batch))),
-        to_z-of_z (fits_abs (get_or entries (p * substances + s) (pos 0)) (omega (arith, entry))),
+        to_z-of_z (fits_signed_from_abs w64 (get_or whole p (pos 0)) (omega (arith, batch))),
+        to_z-of_z (fits_signed_from_abs w64 (get_or entries (p * substances + s) (pos 0)) (omega (arith, entry))),
       )
-      (to_z-of_z (fits_abs (added p) (omega (arith, term_bound p k))))
+      (to_z-of_z (fits_signed_from_abs w64 (added p) (omega (arith, term_bound p k))))
 
   module _ (start : ℤ) where
     -- An amount with what some processes add is far below 2 ^ 63.
@@ -56,14 +57,17 @@ module _ (whole entries : List ℤ) (batches : BatchesFit whole) (rows : Entries
 
     -- The total before any process.
     pub total_none : nat_abs start ≤ most_net → kept start ≡ start +ℤ sum 0 added
-    total_none b = to_z-of_z (fits_abs start (omega (arith, b))) ∙ sym (ap (λ (z : ℤ). start +ℤ z) (sum-none added) ∙ +ℤ_idr start)
+    total_none b = to_z-of_z (fits_signed_from_abs w64 start (omega (arith, b))) ∙ sym (ap (λ (z : ℤ). start +ℤ z) (sum-none added) ∙ +ℤ_idr start)
 
-    -- One process more, as the machine makes it: the next total, which fits.
-    pub total_more : (p : ℕ) (total term : ℤ) → total ≡ start +ℤ sum p added → term ≡ added p → nat_abs start ≤ most_net
+    -- One process more.
+    pub total_more : (p : ℕ) → start +ℤ sum p added +ℤ added p ≡ start +ℤ sum (p + 1) added
+    total_more p = +ℤ_assoc start (sum p added) (added p) ∙ ap (λ (z : ℤ). start +ℤ z) (sym (sum_more p added))
+
+    -- As the machine makes it: the next total, which fits.
+    pub total_next : (p : ℕ) (total term : ℤ) → total ≡ start +ℤ sum p added → term ≡ added p → nat_abs start ≤ most_net
         → p < processes → (total +ℤ kept term ≡ start +ℤ sum (p + 1) added) × SFits w64 (start +ℤ sum (p + 1) added)
-    total_more p total term e f b k =
-        let small : SFits w64 term = rw f (fits_abs (added p) (omega (arith, term_bound p k))) in (
-          rw (to_z-of_z small, e, f)
-              (+ℤ_assoc start (sum p added) (added p) ∙ ap (λ (z : ℤ). start +ℤ z) (sym (sum_more p added))),
-          fits_abs _ (omega (arith, total_bound (p + 1) b (omega arith))),
+    total_next p total term e f b k =
+        let small : SFits w64 term = rw f (fits_signed_from_abs w64 (added p) (omega (arith, term_bound p k))) in (
+          rw (to_z-of_z small, e, f) (total_more p),
+          fits_signed_from_abs w64 _ (omega (arith, total_bound (p + 1) b (omega arith))),
         )

@@ -1,12 +1,16 @@
 -- Processes that do not change a substance, as the code tells them by the digits of a number: they add nothing to it.
 -- No assumptions.
-use Prim.Native.Nat.{ℕ, ◌+◌, ◌/◌, ◌<◌}
+use Prim.Native.Nat.{ℕ, zero, suc, ◌+◌, ◌/◌, ◌%◌, ◌^◌, ◌<◌}
 use mathlib.Core.Bool.{Bool, true, false, not, cond}
 use mathlib.Core.List.{List}
 use mathlib.Core.Path.{◌≡◌, refl, sym, ap, ◌∙◌}
-use native.Mathlib.Numerals.{add-one}
+use native.Mathlib.Nat.{div-one}
+use native.Mathlib.Omega.{arith}
+use lib.Dec.{eqb}
 use lib.IntN.{ℤ, pos, ◌*ℤ◌, *ℤ-zero}
 use lib.ListN.{get_or}
+use Rattle.std.specs.Int.Bits.{bit_and}
+use Rattle.std.proofs.lemmas.Nat.{and_mask, shr-shr}
 use Rattle.stoichiometry.specs.Rows.{processes}
 use Rattle.stoichiometry.specs.Substances.{substances}
 use Rattle.numeric.specs.Check.{every}
@@ -21,10 +25,17 @@ added_none whole entries s p e l h none =
     ap (λ (z : ℤ). get_or whole p (pos 0) *ℤ z) (e.zeros.each p s h l none)
     ∙ *ℤ-zero (get_or whole p (pos 0))
 
--- The digits of half a number are those of the number from place 1 on.
-pub digit_half : (n p : ℕ) → digit n (p + 1) ≡ digit (n / 2) p
+-- A digit of a number is the last one of the number shifted by its place.
+digit_shifted : (n p : ℕ) → digit n p ≡ eqb (n / 2 ^ p % 2) 1
 unfolding digit
-digit_half n p = rw add-one
+digit_shifted n zero = ap (λ (m : ℕ). eqb (m % 2) 1) (sym (div-one n))
+digit_shifted n (suc p) =
+    let place : 1 + p ≡ suc p = omega arith in
+    digit_shifted (n / 2) p ∙ ap (λ (m : ℕ). eqb (m % 2) 1) (shr-shr n 1 p ∙ ap (λ (k : ℕ). n / 2 ^ k) place)
+
+-- As the code reads it.
+pub digit_at : (n p : ℕ) → eqb (bit_and (n / 2 ^ p) 1) 1 ≡ digit n p
+digit_at n p = ap (λ (m : ℕ). eqb m 1) (and_mask (n / 2 ^ p) 1) ∙ sym (digit_shifted n p)
 
 -- A number whose digits agree with the definition at every process, by computation.
 abbrev agrees : ℕ → ℕ → ℕ → Bool

@@ -40,17 +40,14 @@ impl Terms<'_> {
     }
 
     // The amount after of the substance at place s. The binary digits of `changing` say which processes change the
-    // substance, process 1 last. They are taken off one by one, as `Digits` reads them: of a shift by p that would be a
-    // law more.
+    // substance, process 1 last. The place p is that of a digit, of a batch and in the entries: no list has all three.
     fn amount_after(&self, s: usize, changing: u32) -> i64
         requires { (s < substances) × Digits changing s }
         ensures { result ≡ new_from self.now.amounts.now self.now.batches.now self.now.entries.now s }
     {
         let mut total = self.amounts[s];
-        let mut digits = changing;
         for p in 0..PROCESSES {
-            total += self.added_by(s, p, digits % 2 == 1);
-            digits /= 2;
+            total += self.added_by(s, p, changing >> p & 1 == 1);
         }
         total
     }

@@ -8,7 +8,9 @@ ghost use Rattle.step.specs.Inner.Rating.{CellFits, amount_in, level_list, kept_
 use crate::levels::CellLevels;
 use stoichiometry::{Microgram, SUBSTANCES, place};
 
-// A cell of a river, whose amounts are in their bounds.
+// A cell of a river, whose amounts are in their bounds. page and record have a `Cell` of their own: page's knows the bounds
+// of six amounts only, record's has carries and no bounds. As one type in river it would be public with its methods, and
+// `level` here and `value` there ask for a place, which no public call does.
 #[derive(Clone, Copy)]
 pub(crate) struct Cell<'a> {
     pub amounts: &'a [i64; SUBSTANCES],
@@ -16,15 +18,7 @@ pub(crate) struct Cell<'a> {
 }
 
 impl Cell<'_> {
-    // The amount of the organic at place s, µg.
-    fn amount(&self, s: usize) -> u64
-        requires { s < substances }
-        ensures { result ≡ nat_abs (amount_in self.now.amounts.now s) }
-    {
-        self.amounts[s].unsigned_abs()
-    }
-
-    // The level of the dissolved substance at place s, µg.
+    // The level of the substance at place s, µg.
     fn level(&self, s: usize, microgram: Microgram) -> u64
         requires { s < substances }
         ensures { result ≡ nat_abs (amount_in self.now.amounts.now s) / in_microgram microgram }
@@ -36,17 +30,17 @@ impl Cell<'_> {
         ensures { level_list result ≡ kept_levels (levels_of (amount_in self.now.amounts.now)) }
     {
         CellLevels {
-            ss: self.amount(place::SS),
+            ss: self.level(place::SS, Microgram::Organic),
             nh4: self.level(place::NH4, Microgram::Nitrogen),
             no2: self.level(place::NO2, Microgram::Nitrogen),
             no3: self.level(place::NO3, Microgram::Nitrogen),
             hpo4: self.level(place::HPO4, Microgram::Phosphorus),
             o2: self.level(place::O2, Microgram::Oxygen),
-            xh: self.amount(place::XH),
-            xn1: self.amount(place::XN1),
-            xn2: self.amount(place::XN2),
-            xalg: self.amount(place::XALG),
-            xs: self.amount(place::XS),
+            xh: self.level(place::XH, Microgram::Organic),
+            xn1: self.level(place::XN1, Microgram::Organic),
+            xn2: self.level(place::XN2, Microgram::Organic),
+            xalg: self.level(place::XALG, Microgram::Organic),
+            xs: self.level(place::XS, Microgram::Organic),
             xp: self.level(place::XP, Microgram::Phosphorus),
         }
     }

@@ -20,8 +20,9 @@ fn divided(carry: u32, extent: u64) -> (i64, u32)
     ((carried / BATCH) as i64, (carried % BATCH) as u32)
 }
 
-// Writes the whole batches and the new carries of one cell. Into arrays that are lent: where they are answered they are
-// copied, and a step takes 1.01 times as many instructions.
+// Writes the whole batches and the new carries of one cell, into arrays that are lent: no copy is made that is not
+// needed. Where they are answered they are copied, and a step takes 1.01 times as many instructions. Written by place:
+// what a `zip` with `iter_mut` writes the proof does not learn.
 pub(crate) fn split(
     extents: &[u64; PROCESSES],
     carries: &[u32; PROCESSES],
@@ -32,8 +33,8 @@ pub(crate) fn split(
     ensures whole_after { whole.new ≡ tab processes (whole_of extents.now carries.now) }
     ensures rest_after { rest.new ≡ tab processes (rest_of extents.now carries.now) }
 {
-    for (p, extent) in extents.iter().enumerate() {
-        let (batches, left) = divided(carries[p], *extent);
+    for (p, (extent, carry)) in extents.iter().zip(carries).enumerate() {
+        let (batches, left) = divided(*carry, *extent);
         whole[p] = batches;
         rest[p] = left;
     }

@@ -46,6 +46,7 @@ impl Rates<'_> {
         *amounts_after = terms.amounts_after();
         Ok(())
     }
+
     // Writes the amounts and the carries after, cell by cell, with zeros beyond the river's last. Where a cell does not
     // pass check 7 it ends there: 7 in any cell comes before 8 in any. What each cell has after is written into arrays of
     // cells and copied at the end: of a part of the river's lists that is lent by `as_chunks_mut` nothing would be known
@@ -64,14 +65,10 @@ impl Rates<'_> {
         let (carries, _) = river.carries.as_chunks::<PROCESSES>();
         let mut amounts_after = [[0; SUBSTANCES]; River::CELLS_MOST];
         let mut carries_after = [[0; PROCESSES]; River::CELLS_MOST];
-        for c in 0..river.cells as usize {
-            let cell = Cell { amounts: &cells[c] };
-            self.step_cell(
-                &cell,
-                &carries[c],
-                &mut amounts_after[c],
-                &mut carries_after[c],
-            )?;
+        let pairs = cells.iter().zip(carries).take(river.cells as usize);
+        for (c, (amounts, carries)) in pairs.enumerate() {
+            let cell = Cell { amounts };
+            self.step_cell(&cell, carries, &mut amounts_after[c], &mut carries_after[c])?;
         }
         after.amounts.copy_from_slice(amounts_after.as_flattened());
         after.carries.copy_from_slice(carries_after.as_flattened());

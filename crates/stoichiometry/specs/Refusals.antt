@@ -1,6 +1,6 @@
 -- What a call answers (scope, "Numbers a caller may get"; requests of document 02): its result, or a refusal, by the
 -- number of the first check that holds. Laws: proofs/RefusalLaws.antt. No assumptions.
-use Rattle.std.specs.Prelude.{ℕ, ◌-◌, cond, List, [], ◌∷◌, eqb, get_or, Result, Ok, Err}
+use Rattle.std.specs.Prelude.{ℕ, ◌-◌, cond, List, [], ◌∷◌, eqb, get_or, Result, Ok, Err, codes}
 use Rattle.stoichiometry.specs.declared.refusals.Refusal.{Refusal}
 use Rattle.stoichiometry.specs.declared.refusals.Refusal.TheVariants.{Fractions, Figures, Rows, River, Place, Conditions}
 use Rattle.stoichiometry.specs.declared.refusals.Refusal.TheVariants.{Batches, Bounds, Reading, Space, Text, Page}
@@ -19,6 +19,21 @@ number Reading = 9
 number Space = 10
 number Text = 11
 number Page = 12
+
+-- What a refusal says, in bytes of ASCII.
+abbrev pub message : Refusal → List ℕ
+message Fractions = codes "the fractions of some organic do not add to 1,000"
+message Figures = codes "a figure of the set is outside its range"
+message Rows = codes "a process does not consume oxygen, or takes up what it must not"
+message River = codes "the river is not of 1 to 8 cells with amounts and carries in their bounds"
+message Place = codes "the cell or the substance does not exist"
+message Conditions = codes "a figure of the call is outside its range"
+message Batches = codes "some process reaches too many whole batches"
+message Bounds = codes "some amount would end outside its bounds"
+message Reading = codes "a reading is not a number, below zero, or too large"
+message Space = codes "the output or the work area is too short"
+message Text = codes "the text is not exactly a record"
+message Page = codes "the output is too short for the page"
 
 -- The refusals in the order of their numbers, and the refusal of a number from 1 on.
 abbrev pub refusals : List Refusal

@@ -1,4 +1,5 @@
-// The numbers of the substances in their order, counted from 1, as `transport::load_river` takes them.
+// The numbers of the substances in their order, counted from 1, as `transport::load_river` takes them from a caller;
+// lists are read by places, counted from 0.
 use crate::place;
 
 pub const SS: u32 = place::SS as u32 + 1;

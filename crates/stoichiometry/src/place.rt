@@ -1,6 +1,8 @@
 // The places of the substances in their order, counted from 0: where an amount of a cell, or an entry of a row, stands.
 // The number of a substance is one more. Plain numbers: an enum of the 18 would be turned into one wherever it indexes,
-// and runs of neighbours, as XH to XI, are told by their places. Where one indexes, a clause asks that it is in range.
+// and runs of neighbours, as XH to XI, are told by their places. The places of processes and cells are plain numbers
+// too: loops count them, and as a type each would be made by every caller and taken apart at every index. Where a place
+// indexes, a clause asks that it is in range.
 pub const SS: usize = 0;
 
 pub const SI: usize = 1;

@@ -1,6 +1,6 @@
 // What a call refuses with.
-ghost use Rattle.std.specs.Prelude.{◌≡◌};
-ghost use Rattle.stoichiometry.specs.Refusals.{number, number_of};
+ghost use Rattle.std.specs.Prelude.{◌≡◌, Some};
+ghost use Rattle.stoichiometry.specs.Refusals.{message, number, number_of};
 
 use std::error::Error;
 use std::fmt;
@@ -35,7 +35,7 @@ pub enum Refusal {
 }
 
 impl Refusal {
-    // The number of the documents.
+    // The number of the documents. A method, as `Letter::byte` of river: `u32::from(refusal)` would not say which number.
     pub fn number(self) -> u32
         ensures answer { result ≡ number self }
     {
@@ -44,6 +44,8 @@ impl Refusal {
 }
 
 impl fmt::Display for Refusal {
+    ghost output = { λ refusal. Some (message refusal) };
+
     fn fmt<W: fmt::Write>(&self, f: &mut fmt::Formatter<W>) -> fmt::Result {
         f.write_str(match self {
             Refusal::Fractions => "the fractions of some organic do not add to 1,000",

@@ -5,7 +5,8 @@ ghost use Rattle.table9.specs.Agreement.{InReach, agrees_with};
 use stoichiometry::{ENTRIES, SUBSTANCES, place};
 
 // A printed figure: its digits as one number, and 10 to the number of its decimals. The sign stands beside, here and
-// below, as in `agrees_with`: an entry times its weight reaches 1.8 * 10^19, past the numbers of i64.
+// below: `agrees_with` asks for equal signs, then for near sizes. Signed numbers, an i64 and an i128 (an amount reaches
+// 1.8 * 10^19), would be taken apart again for that; by their difference alone a figure of 0 agrees with either sign.
 #[derive(Clone, Copy)]
 pub(crate) struct Figure {
     pub negative: bool,
@@ -14,7 +15,8 @@ pub(crate) struct Figure {
 }
 
 // Chemical oxygen demand of one µg of an organic, in the unit of `weight`: 32 times the grains of O2 that oxidise it,
-// from its fractions of C, H, P, O, N in Table 6. XS is as SS, XI as SI, XN1 and XN2 as XH.
+// from its fractions of C, H, P, O, N in Table 6. XS is as SS, XI as SI, XN1 and XN2 as XH. Each is written
+// out, since a constant calls no function, and a function in their place would have to promise its numbers.
 const SS: u64 = 32 * (26040 * 570 + 78120 * 80 + 12600 * 10 - 9765 * 280 - 16740 * 60);
 
 const SI: u64 = 32 * (26040 * 610 + 78120 * 70 + 12600 * 10 - 9765 * 280 - 16740 * 30);

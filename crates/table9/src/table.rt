@@ -61,7 +61,8 @@ fn cell_of(part: &[u8]) -> Option<&[u8]> {
     }
 }
 
-// From nine digits on a number stays as it is, out of reach of any entry.
+// From nine digits on a number stays as it is, out of reach of any entry. Each program has such a function, with an end
+// of its own: programs share only crates below them, and one for it would have to promise it, for one expression.
 fn with_digit(number: u64, digit: u8) -> u64 {
     if number < 100000000 {
         number * 10 + u64::from(digit)

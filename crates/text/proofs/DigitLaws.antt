@@ -1,125 +1,21 @@
--- Digits written over the last columns of a text, one, two and four at a time: what is written before them is the rest
--- of the number over the columns that are left. Over blanks they are the number in columns. No assumptions.
-use Prim.Native.Nat.{ℕ, zero, suc, ◌+◌, ◌-◌, ◌*◌, ◌/◌, ◌%◌, ◌≤◌, ◌<◌}
-use mathlib.Core.List.{List, [], ◌∷◌, ◌++◌, append_assoc}
+-- The digits of a number as std writes them, behind blanks and a mark, are the number in columns; and the last of these
+-- columns are the number in fewer. No assumptions.
+use Prim.Native.Nat.{ℕ, zero, suc, ◌+◌, ◌-◌, ◌/◌, ◌%◌, ◌^◌, ◌≤◌, ◌<◌}
+use mathlib.Core.List.{List, [], ◌∷◌, ◌++◌, append_assoc, append-nil}
+use mathlib.Core.Logic.{⊎_elim}
 use mathlib.Core.Path.{◌≡◌, refl, sym, ap, ap₂, ◌∙◌}
 use native.Mathlib.Numerals.{add-one}
 use native.Mathlib.Omega.{arith}
-use lib.ListN.{length, take, set, replicate}
-use lib.Seq.{take_at, drop-length}
+use lib.ListN.{length, take, drop, set, replicate, length-append, take-append-drop}
+use lib.Seq.{drop-length}
+use Rattle.std.specs.Fmt as fmt
+use Rattle.std.proofs.lemmas.Bool.{cases_lt}
+use Rattle.std.proofs.lemmas.Fmt.{decimal_by_steps, decimal_digit, decimal_step}
 use Rattle.text.specs.Writes.{put}
 use Rattle.text.proofs.WriteLaws.{set-put}
-use Rattle.text.proofs.DecimalLaws.{glyph_zero, glyph-digit}
-use Rattle.std.proofs.lemmas.List.{take-take, take-replicate, length-take-le, length-replicate, replicate-append-replicate}
+use Rattle.text.proofs.DecimalLaws.{columns-length, plain-length, glyph_zero, glyph-digit}
+use Rattle.std.proofs.lemmas.List.{drop_all, drop-append-le, take-take, take-replicate, length-replicate, replicate-append-replicate}
 use Rattle.text.specs.Decimals.{glyph, next_mark, columns, plain}
-use Rattle.text.specs.Inner.Stages.{digits_over, pair, four}
-
--- The digits by the remainder are those of the number.
-pair_eq : (a b : ℕ) → a % 100 ≡ b % 100 → pair a ≡ pair b
-pair_eq a b e =
-    let tens : 48 + a / 10 % 10 ≡ 48 + b / 10 % 10 = omega arith in
-    let ones : 48 + a % 10 ≡ 48 + b % 10 = omega arith in
-    rw (tens, ones)
-
-pub pair_last : (n : ℕ) → pair (n - n / 100 * 100) ≡ pair n
-pair_last n = pair_eq (n - n / 100 * 100) n (omega arith)
-
-pub four_last : (n : ℕ) → four (n - n / 10000 * 10000) ≡ four n
-four_last n =
-    let r = n - n / 10000 * 10000 in
-    ap₂ ◌++◌ (pair_eq (r / 100) (n / 100) (omega arith)) (pair_eq r n (omega arith))
-
--- Only the columns themselves are read.
-over-take : (i j m r : ℕ) (l : List ℕ) → i ≤ j → digits_over i (take j l) m r ≡ digits_over i l m r
-unfolding digits_over
-over-take zero j m r l h = refl
-over-take (suc i) j m zero l h = ap (λ (x : List ℕ). x ++ (m ∷ [])) (take-take i j l (omega arith))
-over-take (suc i) j m (suc r) l h =
-    ap (λ (x : List ℕ). x ++ ((48 + suc r % 10) ∷ [])) (over-take i j m (suc r / 10) l (omega arith))
-
-over_digit : (i m r : ℕ) (l : List ℕ) → 0 < r
-    → digits_over (suc i) l m r ≡ digits_over i l m (r / 10) ++ ((48 + r % 10) ∷ [])
-unfolding digits_over
-over_digit i m zero l h = absurd (omega arith)
-over_digit i m (suc r) l h = refl
-
--- Columns that end with two digits, and with four.
-over_two : (i m r : ℕ) (l : List ℕ) → 10 ≤ r
-    → digits_over (suc (suc i)) l m r ≡ digits_over i l m (r / 100) ++ pair r
-over_two i m r l h =
-    let hundreds : r / 10 / 10 ≡ r / 100 = omega arith in
-    over_digit (suc i) m r l (omega arith)
-    ∙ ap (λ (x : List ℕ). x ++ ((48 + r % 10) ∷ [])) (over_digit i m (r / 10) l (omega arith))
-    ∙ rw hundreds (append_assoc (digits_over i l m (r / 100)) ((48 + r / 10 % 10) ∷ []) ((48 + r % 10) ∷ []))
-
-over-four : (i m r : ℕ) (l : List ℕ) → 1000 ≤ r
-    → digits_over (suc (suc (suc (suc i)))) l m r ≡ digits_over i l m (r / 10000) ++ four r
-over-four i m r l h =
-    let thousands : r / 100 / 100 ≡ r / 10000 = omega arith in
-    over_two (suc (suc i)) m r l (omega arith)
-    ∙ ap (λ (x : List ℕ). x ++ pair r) (over_two i m (r / 100) l (omega arith))
-    ∙ rw thousands (append_assoc (digits_over i l m (r / 10000)) (pair (r / 100)) (pair r))
-
--- No column, and the mark alone.
-pub over-none : (l : List ℕ) (m r : ℕ) → length l ≡ 0 → l ≡ digits_over (length l) l m r
-unfolding digits_over
-over-none [] m r e = refl
-over-none (x ∷ l) m r e = absurd (omega arith)
-
-pub over-mark : (l : List ℕ) (m : ℕ) → 0 < length l → set l (length l - 1) m ≡ digits_over (length l) l m 0
-unfolding digits_over put
-over-mark l m h =
-    let all : length l ≡ suc (length l - 1) = omega arith in
-    let end : length l - 1 + 1 ≡ length l = omega arith in
-    set-put l (length l - 1) m (omega arith)
-    ∙ rw (end, drop-length l) refl
-    ∙ sym (ap (λ (i : ℕ). digits_over i l m 0) all)
-
--- The last digits are written, and before them the rest q of the number over the columns before.
-module _ (l before ys : List ℕ) (m r q : ℕ) (rest : ys ≡ digits_over (length before) before m q) where
-  joined : (d : ℕ) (xs zs : List ℕ) → xs ≡ zs → d ≤ length l → before ≡ take (length l - d) l
-      → digits_over (length l) l m r ≡ digits_over (length l - d) l m q ++ zs
-      → ys ++ xs ≡ digits_over (length l) l m r
-  joined d xs zs last le e whole =
-      let j = length l - d in
-      let long : length before ≡ j = ap length e ∙ length-take-le j l (omega arith) in
-      ap₂ ◌++◌
-      (rest ∙ ap₂ (λ (i : ℕ) (x : List ℕ). digits_over i x m q) long e ∙ over-take j j m q l (omega arith))
-      last
-      ∙ sym whole
-
-  pub digit_joined : (d x : ℕ) → l ≡ before ++ (x ∷ []) → length before + 1 ≡ length l → 0 < r → q ≡ r / 10
-      → d ≡ r % 10
-      → ys ++ ((48 + d) ∷ []) ≡ digits_over (length l) l m r
-  digit_joined d x e long some eq ed =
-      let all : length l ≡ suc (length l - 1) = omega arith in
-      joined 1 _ _ (ap (λ (k : ℕ). (48 + k) ∷ []) ed) (omega arith)
-      (sym (ap (take (length l - 1)) e ∙ take_at before (x ∷ []) (length l - 1) (omega arith)))
-      (ap (λ (i : ℕ). digits_over i l m r) all
-      ∙ over_digit (length l - 1) m r l some
-      ∙ ap (λ (k : ℕ). digits_over (length l - 1) l m k ++ ((48 + r % 10) ∷ [])) (sym eq))
-
-  pub pair_joined : (xs : List ℕ) → before ≡ take (length l - 2) l → length before + 2 ≡ length l → 10 ≤ r
-      → q ≡ r / 100
-      → xs ≡ pair r
-      → ys ++ xs ≡ digits_over (length l) l m r
-  pair_joined xs e long some eq last =
-      let all : length l ≡ suc (suc (length l - 2)) = omega arith in
-      joined 2 xs _ last (omega arith) e
-      (ap (λ (i : ℕ). digits_over i l m r) all
-      ∙ over_two (length l - 2) m r l some
-      ∙ ap (λ (k : ℕ). digits_over (length l - 2) l m k ++ pair r) (sym eq))
-
-  pub four_joined : (xs : List ℕ) → before ≡ take (length l - 4) l → length before + 4 ≡ length l → 1000 ≤ r
-      → q ≡ r / 10000
-      → xs ≡ four r
-      → ys ++ xs ≡ digits_over (length l) l m r
-  four_joined xs e long some eq last =
-      let all : length l ≡ suc (suc (suc (suc (length l - 4)))) = omega arith in
-      joined 4 xs _ last (omega arith) e
-      (ap (λ (i : ℕ). digits_over i l m r) all
-      ∙ over-four (length l - 4) m r l some
-      ∙ ap (λ (k : ℕ). digits_over (length l - 4) l m k ++ four r) (sym eq))
 
 -- Blanks before a blank.
 blanks : (i : ℕ) → columns i 32 0 ≡ replicate i 32
@@ -130,15 +26,6 @@ blanks (suc i) =
     ∙ replicate-append-replicate i 1 32
     ∙ ap (λ (k : ℕ). replicate {A = ℕ} k 32) (add-one i)
 
--- Over blanks they are the number in columns.
-over_blanks : (i j m r : ℕ) → i ≤ j → digits_over i (replicate j 32) m r ≡ columns i m r
-unfolding digits_over columns glyph next_mark
-over_blanks zero j m r h = refl
-over_blanks (suc i) j m zero h =
-    ap (λ (x : List ℕ). x ++ (m ∷ [])) (take-replicate i j 32 (omega arith) ∙ sym (blanks i))
-over_blanks (suc i) j m (suc r) h =
-    ap (λ (x : List ℕ). x ++ ((48 + suc r % 10) ∷ [])) (over_blanks i j m (suc r / 10) (omega arith))
-
 -- A number that is not 0 has a digit in the last column by itself.
 digits_plain : (i m r : ℕ) → 0 < r → columns i m r ≡ plain i m r
 unfolding columns plain glyph next_mark
@@ -146,50 +33,148 @@ digits_plain zero m r h = refl
 digits_plain (suc i) m zero h = absurd (omega arith)
 digits_plain (suc i) m (suc r) h = refl
 
--- The number n over w blanks b: its digits, a lone zero behind its mark, and no column.
-module _ (b : List ℕ) (w m n : ℕ) (blank : b ≡ replicate w 32) where
-  pub over-plain : 0 < n → digits_over (length b) b m n ≡ plain w m n
-  over-plain some =
-      let long : length b ≡ w = ap length blank ∙ length-replicate w 32 in
-      ap₂ (λ (i : ℕ) (x : List ℕ). digits_over i x m n) long blank
-      ∙ over_blanks w w m n (omega arith)
-      ∙ digits_plain w m n some
+-- The last w of more columns are w columns.
+last_columns : (k w m r : ℕ) → drop k (columns (k + w) m r) ≡ columns w m r
+unfolding columns
+last_columns k zero m r = drop_all k _ (omega (arith, columns-length))
+last_columns k (suc w) m r =
+    let e : k + suc w ≡ suc (k + w) = omega arith in
+    ap (λ (i : ℕ). drop k (columns i m r)) e
+    ∙ drop-append-le k _ (glyph r m ∷ []) (omega (arith, columns-length))
+    ∙ ap (λ (x : List ℕ). x ++ (glyph r m ∷ [])) (last_columns k w (next_mark r m) (r / 10))
 
-  pub zero_plain : (before ys : List ℕ) (x : ℕ) → b ≡ before ++ (x ∷ []) → length before + 1 ≡ length b → n ≡ 0
-      → ys ≡ digits_over (length before) before m 0
-      → ys ++ (48 ∷ []) ≡ plain w m n
-  unfolding plain
-  zero_plain before ys x e long none written =
-      let wide : length b ≡ w = ap length blank ∙ length-replicate w 32 in
-      let j = w - 1 in
-      let all : suc j ≡ w = omega arith in
-      let front : before ≡ replicate j 32 =
-      sym (take_at before (x ∷ []) j (omega arith)) ∙ ap (take j) (sym e ∙ blank) ∙ take-replicate j w 32 (omega arith) in
-      let short : length before ≡ j = omega arith in
-      ap (λ (x : List ℕ). x ++ (48 ∷ []))
-      (written
-      ∙ ap₂ (λ (i : ℕ) (x : List ℕ). digits_over i x m 0) short front
-      ∙ over_blanks j j m 0 (omega arith))
-      ∙ ap₂ (λ (k i : ℕ). plain k m i) all (sym none)
+pub last_plain : (k w m n : ℕ) → drop k (plain (k + w) m n) ≡ plain w m n
+unfolding plain
+last_plain k zero m n = drop_all k _ (omega (arith, plain-length))
+last_plain k (suc w) m n =
+    let e : k + suc w ≡ suc (k + w) = omega arith in
+    ap (λ (i : ℕ). drop k (plain i m n)) e
+    ∙ drop-append-le k _ ((48 + n % 10) ∷ []) (omega (arith, columns-length))
+    ∙ ap (λ (x : List ℕ). x ++ ((48 + n % 10) ∷ [])) (last_columns k w m (n / 10))
 
-  pub none_plain : length b ≡ 0 → b ≡ plain w m n
-  unfolding plain
-  none_plain none =
-      let wide : length b ≡ w = ap length blank ∙ length-replicate w 32 in
-      let no : w ≡ 0 = omega arith in
-      blank ∙ ap (λ (k : ℕ). replicate {A = ℕ} k 32) no ∙ ap (λ (k : ℕ). plain k m n) (sym no)
+-- A number of two digits or more has those of its tenth before its last.
+plain_step : (v m n : ℕ) → 10 ≤ n → plain (suc v) m n ≡ plain v m (n / 10) ++ ((48 + n % 10) ∷ [])
+unfolding plain
+plain_step v m n h = ap (λ (x : List ℕ). x ++ ((48 + n % 10) ∷ [])) (digits_plain v m (n / 10) (omega arith))
 
--- Two columns: below ten a blank and the digit, otherwise two digits.
-pub two_blank : (n : ℕ) → n < 10 → 32 ∷ (48 + n % 100 % 10) ∷ [] ≡ plain 2 32 n
-unfolding columns plain
-two_blank n h =
+-- The text ds is number n in columns: with the mark and blanks before it, or over all columns.
+record Columns (n : ℕ) (ds : List ℕ) : Type 0 where
+  marked : (w m : ℕ) → length ds < w → plain w m n ≡ replicate (w - length ds - 1) 32 ++ (m ∷ ds)
+  whole : (w m : ℕ) → length ds ≡ w → plain w m n ≡ ds
+
+one_digit : (n : ℕ) → n < 10 → Columns n ((48 + n) ∷ [])
+unfolding plain columns glyph next_mark
+one_digit n h =
     let tens : n / 10 ≡ 0 = omega arith in
-    let ones : 48 + n % 100 % 10 ≡ 48 + n % 10 = omega arith in
-    ap₂ (λ (x y : ℕ). x ∷ y ∷ []) (sym (glyph_zero (n / 10) 32 tens)) ones
+    let ones : 48 + n % 10 ≡ 48 + n = omega arith in
+    record {
+      marked =
+          λ w m l.
+          let all : w ≡ suc (suc (w - 2)) = omega arith in
+          let count : w - 2 ≡ w - 1 - 1 = omega arith in
+          ap (λ (k : ℕ). plain k m n) all
+          ∙ rw (tens, ones) (ap (λ (x : List ℕ). (x ++ (m ∷ [])) ++ ((48 + n) ∷ [])) (blanks (w - 2))
+          ∙ append_assoc (replicate (w - 2) 32) (m ∷ []) ((48 + n) ∷ [])
+          ∙ ap (λ (k : ℕ). replicate k 32 ++ (m ∷ (48 + n) ∷ [])) count);
+      whole = λ w m e. ap (λ (k : ℕ). plain k m n) (sym e) ∙ rw ones refl;
+    }
 
-pub two_digits : (n : ℕ) → 10 ≤ n → pair (n % 100) ≡ plain 2 32 n
-unfolding columns plain
-two_digits n h =
-    let tens : 48 + n % 100 / 10 % 10 ≡ 48 + n / 10 % 10 = omega arith in
-    let ones : 48 + n % 100 % 10 ≡ 48 + n % 10 = omega arith in
-    ap₂ (λ (x y : ℕ). x ∷ y ∷ []) (tens ∙ sym (glyph-digit (n / 10) 32 (λ e. omega arith))) ones
+more_digits : (n : ℕ) (ds : List ℕ) → 10 ≤ n → Columns (n / 10) ds → Columns n (ds ++ ((48 + n % 10) ∷ []))
+more_digits n ds h rest =
+    let last = (48 + n % 10) ∷ [] in
+    let long = length-append ds last in
+    record {
+      marked =
+          λ w m l.
+          let v = w - 1 in
+          let all : w ≡ suc v = omega (arith, long) in
+          let count : v - length ds - 1 ≡ w - length (ds ++ last) - 1 = omega (arith, long) in
+          ap (λ (k : ℕ). plain k m n) all
+          ∙ plain_step v m n h
+          ∙ ap (λ (x : List ℕ). x ++ last) (rest.marked v m (omega (arith, long)))
+          ∙ append_assoc (replicate (v - length ds - 1) 32) (m ∷ ds) last
+          ∙ ap (λ (k : ℕ). replicate k 32 ++ (m ∷ (ds ++ last))) count;
+      whole =
+          λ w m e.
+          let v = length ds in
+          let all : w ≡ suc v = omega (arith, long) in
+          ap (λ (k : ℕ). plain k m n) all ∙ plain_step v m n h ∙ ap (λ (x : List ℕ). x ++ last) (rest.whole v m refl);
+    }
+
+decimal_columns : (n : ℕ) → n < 2 ^ 64 → Columns n (fmt.decimal n)
+decimal_columns = decimal_by_steps Columns one_digit more_digits
+
+-- The digits of n stand at the end of the columns l, over w blanks b: with the mark before them they are the number in
+-- columns, and without one where there is no column for it.
+module _ (l b : List ℕ) (w start m n : ℕ) (small : n < 2 ^ 64) (blank : b ≡ replicate w 32)
+    (end : start + length (fmt.decimal n) ≡ length b) (digits : drop start l ≡ fmt.decimal n ++ drop (length b) b)
+    (before : take start l ≡ take start b) where
+  abbrev ds : List ℕ
+  ds = fmt.decimal n
+
+  wide : length b ≡ w
+  wide = ap length blank ∙ length-replicate w 32
+
+  digits_alone : drop start l ≡ ds
+  digits_alone = digits ∙ ap (λ (x : List ℕ). ds ++ x) (drop-length b) ∙ append-nil ds
+
+  blanks_before : (k : ℕ) → k ≤ start → take k l ≡ replicate k 32
+  blanks_before k h =
+      sym (take-take k start l h)
+      ∙ ap (take k) (before ∙ ap (take start) blank ∙ take-replicate start w 32 (omega (arith, wide)))
+      ∙ take-replicate k start 32 h
+
+  pub digits_marked : 0 < start → start ≤ length l → set l (start - 1) m ≡ plain w m n
+  unfolding put
+  digits_marked some long =
+      let k = start - 1 in
+      let next : k + 1 ≡ start = omega arith in
+      let count : w - length ds - 1 ≡ k = omega (arith, wide) in
+      set-put l k m (omega arith)
+      ∙ ap₂ (λ (x y : List ℕ). x ++ (m ∷ y)) (blanks_before k (omega arith)) (ap (λ (i : ℕ). drop i l) next ∙ digits_alone)
+      ∙ ap (λ (i : ℕ). replicate i 32 ++ (m ∷ ds)) (sym count)
+      ∙ sym ((decimal_columns n small).marked w m (omega (arith, wide)))
+
+  pub digits_whole : start ≡ 0 → l ≡ plain w m n
+  digits_whole none =
+      ap (λ (k : ℕ). drop k l) (sym none) ∙ digits_alone
+      ∙ sym ((decimal_columns n small).whole w m (omega (arith, wide)))
+
+-- The last two digits of n, written as a number r over two columns x: blanks below ten, otherwise zeros.
+module _ (l : List ℕ) (s n r x : ℕ) (low : r ≡ n % 100) (end : s + length (fmt.decimal r) ≡ 2)
+    (digits : drop s l ≡ fmt.decimal r ++ []) (before : take s l ≡ take s (x ∷ x ∷ [])) where
+  parts : l ≡ take s (x ∷ x ∷ []) ++ fmt.decimal r
+  parts = sym (take-append-drop s l) ∙ ap₂ (λ (a b : List ℕ). a ++ b) before (digits ∙ append-nil (fmt.decimal r))
+
+  one : r < 10 → l ≡ x ∷ (48 + n % 10) ∷ []
+  one h =
+      let digit = decimal_digit r h in
+      let last : 48 + r ≡ 48 + n % 10 = omega arith in
+      let first : s ≡ 1 = omega (arith, ap length digit) in
+      parts
+      ∙ ap₂ (λ (i : ℕ) (ds : List ℕ). take i (x ∷ x ∷ []) ++ ds) first (digit ∙ ap (λ (y : ℕ). y ∷ []) last)
+
+  two : 10 ≤ r → l ≡ (48 + n / 10 % 10) ∷ (48 + n % 10) ∷ []
+  two h =
+      let tens : 48 + r / 10 ≡ 48 + n / 10 % 10 = omega arith in
+      let ones : 48 + r % 10 ≡ 48 + n % 10 = omega arith in
+      let both : fmt.decimal r ≡ (48 + r / 10) ∷ (48 + r % 10) ∷ [] =
+      decimal_step r h (omega arith) ∙ ap (λ (ds : List ℕ). ds ++ ((48 + r % 10) ∷ [])) (decimal_digit (r / 10) (omega arith)) in
+      let first : s ≡ 0 = omega (arith, ap length both) in
+      parts
+      ∙ ap₂ (λ (i : ℕ) (ds : List ℕ). take i (x ∷ x ∷ []) ++ ds) first
+      (both ∙ ap₂ (λ (y z : ℕ). y ∷ z ∷ []) tens ones)
+
+  pub two_below_ten : n < 10 → x ≡ 32 → l ≡ plain 2 32 n
+  unfolding columns plain
+  two_below_ten h blank =
+      one (omega arith)
+      ∙ ap (λ (y : ℕ). y ∷ (48 + n % 10) ∷ []) (blank ∙ sym (glyph_zero (n / 10) 32 (omega arith)))
+
+  pub two_from_ten : 10 ≤ n → x ≡ 48 → l ≡ plain 2 32 n
+  unfolding columns plain
+  two_from_ten h nought =
+      let glyphs : (48 + n / 10 % 10) ∷ (48 + n % 10) ∷ [] ≡ plain 2 32 n =
+      ap (λ (y : ℕ). y ∷ (48 + n % 10) ∷ []) (sym (glyph-digit (n / 10) 32 (λ e. omega arith))) in
+      ⊎_elim (λ a. let tens : x ≡ 48 + n / 10 % 10 = omega arith in
+      one a ∙ ap (λ (y : ℕ). y ∷ (48 + n % 10) ∷ []) tens ∙ glyphs) (λ a. two a ∙ glyphs) (cases_lt r 10)

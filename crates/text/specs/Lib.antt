@@ -1,4 +1,3 @@
 pub mod Writes
 pub mod Decimals
 pub mod Blocks
-pub mod Inner

@@ -6,14 +6,14 @@ ghost use Rattle.std.specs.Prelude.{◌≡◌, length};
 ghost use Rattle.text.specs.Writes.{put_within, copied};
 ghost use Rattle.text.specs.Decimals.{plain, decimal};
 
-use crate::digits::pair;
 use crate::writing::{Figure, mark_of};
+use itoa::write_digits;
 use numeric::magnitude;
 
-mod digits;
 mod writing;
 
-// The value over all of the columns.
+// The value over all of the columns: blanks, and over the last of them the digits, by the kit's `itoa`. `write!` with a
+// width would need a writer over the lent bytes, and cuts off no digits where there are fewer columns.
 pub fn write_value(columns: &mut [u8], value: i64)
     ensures columns { columns.new ≡ decimal (length columns.old) value }
 {
@@ -29,34 +29,26 @@ pub fn write_value(columns: &mut [u8], value: i64)
 pub fn write_decimal(out: &mut [u8], at: usize, width: usize, value: i64)
     ensures out { out.new ≡ put_within out.old at (decimal width value) }
 {
-    if out.len() < at {
-        return;
+    if at <= out.len() && width <= out.len() - at {
+        write_value(&mut out[at..at + width], value);
     }
-    if out.len() - at < width {
-        return;
-    }
-    write_value(&mut out[at..at + width], value);
 }
 
 // The bytes of n in two columns: its tens, a blank where there are none, and its ones; of more digits the last two.
 pub fn two_columns(n: u32) -> [u8; 2]
     ensures columns { result ≡ plain 2 32 n }
 {
-    let [tens, ones] = pair(n % 100);
-    [if n < 10 { b' ' } else { tens }, ones]
+    // `write_digits` writes no zero before a digit: of 105 it is there before.
+    let mut columns = [if n < 10 { b' ' } else { b'0' }; 2];
+    write_digits(u64::from(n % 100), &mut columns, 2);
+    columns
 }
 
-// n in two columns from `at` on, where both are there. Kept beside `two_columns`, as `write_decimal` is.
+// n in two columns from `at` on, where both are there; its mark is a blank. Public, and kept as `write_decimal`.
 pub fn write_two(out: &mut [u8], at: usize, n: u32)
     ensures out { out.new ≡ put_within out.old at (plain 2 32 n) }
 {
-    if out.len() < at {
-        return;
-    }
-    if out.len() - at < 2 {
-        return;
-    }
-    out[at..at + 2].copy_from_slice(&two_columns(n));
+    write_decimal(out, at, 2, i64::from(n));
 }
 
 // The first `count` bytes of `to` become those of `from`, where both have as many. Public, and kept as `write_decimal`.

@@ -17,6 +17,8 @@ use lib.ListN.{length, length-append}
 use lib.Signed.{le_z}
 use Rattle.numeric.proofs.Bounds.{abs_neg}
 use Rattle.numeric.proofs.CheckLaws.{and_left, and_right}
+use Rattle.std.proofs.lemmas.Bool.{cond_both}
+use Rattle.std.proofs.lemmas.Option.{same_Some}
 use Rattle.std.specs.Char.{is_ascii_digit}
 use Rattle.std.specs.Prelude.{Option, Some, None, option_and_then}
 use Rattle.text.specs.Decimals.{glyph, next_mark, columns, plain, decimal}
@@ -139,10 +141,6 @@ Reads xs (cols m r) = (xs ≡ columns (length xs) m r) × ((m ≡ 32) ⊎ (m ≡
 Reads xs lone_zero = xs ≡ plain (length xs) 32 0
 Reads xs bad = xs ≡ xs
 
-by_cases : {A : Type 0} (P : A → Type 0) (b : Bool) (x y : A) → (b ≡ true → P x) → (b ≡ false → P y) → P (cond b x y)
-by_cases P true x y f g = f refl
-by_cases P false x y f g = g refl
-
 longer : (xs : List ℕ) (b : ℕ) → length (xs ++ (b ∷ [])) ≡ suc (length xs)
 longer xs b = length-append xs (b ∷ []) ∙ add-one (length xs)
 
@@ -170,15 +168,15 @@ module _ (xs : List ℕ) (m r : ℕ) (h : Reads xs (cols m r)) where
   unfolding Reads digit plain
   digit_reads d l =
       let P = Reads (xs ++ ((48 + d) ∷ [])) in
-      by_cases P (eqb (r + d) 0) _ _
-      (λ e. by_cases P (eqb m 32) _ _
+      cond_both (eqb (r + d) 0) _ _ P
+      (λ e. cond_both (eqb m 32) _ _ P
       (λ f.
       let er : r ≡ 0 = let q = eqb-true (r + d) 0 e in omega arith in
       let ed : d ≡ 0 = let q = eqb-true (r + d) 0 e in omega arith in
       ap₂ (λ (l : List ℕ) (b : ℕ). l ++ ((48 + b) ∷ [])) (h.0 ∙ ap₂ (columns (length xs)) (eqb-true m 32 f) er) ed
       ∙ ap (λ (n : ℕ). plain n 32 0) (sym (longer xs (48 + d))))
       (λ f. refl))
-      (λ e. by_cases P (leb r most) _ _
+      (λ e. cond_both (leb r most) _ _ P
       (λ f. one_more (48 + d) m (r * 10 + d) (more_digit xs m r d h.0 l (eqb-false (r + d) 0 e)) h.1)
       (λ f. refl))
 
@@ -186,13 +184,13 @@ module _ (xs : List ℕ) (m r : ℕ) (h : Reads xs (cols m r)) where
   unfolding Reads other columns glyph next_mark
   other_reads b =
       let P = Reads (xs ++ (b ∷ [])) in
-      by_cases P (eqb r 0) _ _
-      (λ e. by_cases P (eqb m 32) _ _
+      cond_both (eqb r 0) _ _ P
+      (λ e. cond_both (eqb m 32) _ _ P
       (λ f.
       let blank : xs ≡ columns (length xs) 32 0 = h.0 ∙ ap₂ (columns (length xs)) (eqb-true m 32 f) (eqb-true r 0 e) in
-      by_cases P (eqb b 32) _ _
+      cond_both (eqb b 32) _ _ P
       (λ g. one_more b 32 0 (ap₂ (λ (l : List ℕ) (x : ℕ). l ++ (x ∷ [])) blank (eqb-true b 32 g)) (inl refl))
-      (λ g. by_cases P (eqb b 45) _ _
+      (λ g. cond_both (eqb b 45) _ _ P
       (λ g2. one_more b 45 0 (ap₂ (λ (l : List ℕ) (x : ℕ). l ++ (x ∷ [])) blank (eqb-true b 45 g2)) (inr refl))
       (λ g2. refl)))
       (λ f. refl))
@@ -201,7 +199,7 @@ module _ (xs : List ℕ) (m r : ℕ) (h : Reads xs (cols m r)) where
 next_reads : (xs : List ℕ) (s : Seen) (b : ℕ) → Reads xs s → Reads (xs ++ (b ∷ [])) (next s b)
 unfolding next Reads
 next_reads xs (cols m r) b h =
-    by_cases (Reads (xs ++ (b ∷ []))) (is_digit b) _ _
+    cond_both (is_digit b) _ _ (Reads (xs ++ (b ∷ [])))
     (λ e.
     let q = digit_range b e in
     let back : 48 + (b - 48) ≡ b = omega arith in
@@ -224,16 +222,16 @@ Bounded bad = Unit {0}
 next_bounded : (s : Seen) (b : ℕ) → Bounded s → Bounded (next s b)
 unfolding Bounded next digit other
 next_bounded (cols m r) b h =
-    by_cases Bounded (is_digit b) _ _
+    cond_both (is_digit b) _ _ Bounded
     (λ e.
-    by_cases Bounded (eqb (r + (b - 48)) 0) _ _ (λ f. by_cases Bounded (eqb m 32) _ _ (λ g. tt) (λ g. tt))
-    (λ f. by_cases Bounded (leb r most) _ _ (λ g. omega (arith, digit_range b e, leb-true r most g)) (λ g. tt)))
+    cond_both (eqb (r + (b - 48)) 0) _ _ Bounded (λ f. cond_both (eqb m 32) _ _ Bounded (λ g. tt) (λ g. tt))
+    (λ f. cond_both (leb r most) _ _ Bounded (λ g. omega (arith, digit_range b e, leb-true r most g)) (λ g. tt)))
     (λ e.
-    by_cases Bounded (eqb r 0) _ _
+    cond_both (eqb r 0) _ _ Bounded
     (λ f.
-    by_cases Bounded (eqb m 32) _ _
-    (λ g. by_cases Bounded (eqb b 32) _ _ (λ i. omega arith)
-    (λ i. by_cases Bounded (eqb b 45) _ _ (λ j. omega arith) (λ j. tt)))
+    cond_both (eqb m 32) _ _ Bounded
+    (λ g. cond_both (eqb b 32) _ _ Bounded (λ i. omega arith)
+    (λ i. cond_both (eqb b 45) _ _ Bounded (λ j. omega arith) (λ j. tt)))
     (λ g. tt))
     (λ f. tt))
 next_bounded lone_zero b h = tt
@@ -247,12 +245,9 @@ run_bounded (x ∷ xs) s h = run_bounded xs (next s x) (next_bounded s x h)
 Small : Option ℤ → Type 0
 Small o = (z : ℤ) → o ≡ Some z → nat_abs z ≤ largest
 
-value_is : {x y : ℤ} → Some x ≡ Some y → x ≡ y
-value_is q = cc
-
 small_some : (x : ℤ) → nat_abs x ≤ largest → Small (Some x)
 unfolding Small
-small_some x h z q = rw (value_is q) at h
+small_some x h z q = rw (same_Some x z q) at h
 
 small_none : Small None
 unfolding Small
@@ -261,9 +256,9 @@ small_none z q = absurd (cc)
 finish_bounded : (s : Seen) → Bounded s → Small (finish s)
 unfolding Bounded finish signed
 finish_bounded (cols m r) h =
-    by_cases Small (eqb r 0) _ _ (λ e. small_none)
+    cond_both (eqb r 0) _ _ Small (λ e. small_none)
     (λ e.
-    by_cases (λ (x : ℤ). Small (Some x)) (eqb m 45) _ _
+    cond_both (eqb m 45) _ _ (λ (x : ℤ). Small (Some x))
     (λ f. small_some (neg_ℤ (pos r)) (omega (arith, abs_neg (pos r)))) (λ f. small_some (pos r) h))
 finish_bounded lone_zero h = small_some (pos 0) (omega arith)
 finish_bounded bad h = small_none
@@ -296,14 +291,14 @@ module _ (lowest highest : ℤ) (t : List ℕ) where
   within_answers z e =
       let low = le_z lowest z in
       let high = le_z z highest in
-      by_cases (Answers lowest highest t) (low && high) _ _
+      cond_both (low && high) _ _ (Answers lowest highest t)
       (λ f. read z (record { form = e; from = and_left low high f; to = and_right low high f }))
       (λ f. refused)
 
   finish_answers : (s : Seen) → Reads t s → Answers lowest highest t (option_and_then (within lowest highest) (finish s))
   unfolding finish Reads decimal
   finish_answers (cols m r) h =
-      by_cases (λ (o : Option ℤ). Answers lowest highest t (option_and_then (within lowest highest) o)) (eqb r 0) _ _
+      cond_both (eqb r 0) _ _ (λ (o : Option ℤ). Answers lowest highest t (option_and_then (within lowest highest) o))
       (λ e. refused)
       (λ e. within_answers (signed m r) (h.0 ∙ signed_decimal (length t) m r (eqb-false r 0 e) h.1))
   finish_answers lone_zero h = within_answers (pos 0) h

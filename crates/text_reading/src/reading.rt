@@ -1,5 +1,6 @@
 // Inner functions of the strict reader, in the order of the columns: blanks, a mark, digits. One pass over the bytes; a
-// text that is no decimal is refused at the byte that shows it. The public call is at the crate's root.
+// text that is no decimal is refused at the byte that shows it. The public call is at the crate's root. By hand, since
+// `i64`'s `from_str` takes a plus, leading zeros and `-0`, wants a `str`, and takes no blanks: all would be tested before.
 ghost use Rattle.std.specs.Prelude.{◌≡◌, ◌+◌, ◌-◌, ◌*◌, ◌≤◌, get_or};
 ghost use Rattle.text_reading.specs.Reading.{signed, finish, value_of};
 ghost use Rattle.text_reading.specs.Inner.Digits.{digits_seen};
@@ -10,7 +11,8 @@ const DIGITS: usize = 19;
 
 const LARGEST: u64 = 1_000_000_000_000_000_009;
 
-// The digits' value with its mark, `-` or a blank: the byte itself, as the definitions have it and as it is written.
+// The digits' value with its mark, `-` or a blank. The mark is the byte itself: an enum for it would be made of that byte
+// in `value_of`, and matched here and in `value_after` where the byte is compared, which is no plainer.
 // `0i64.saturating_sub_unsigned(size)` would spare one of the two casts, and name a limit that is never met.
 fn signed(mark: u8, size: u64) -> i64
     requires { size ≤ 1_000_000_000_000_000_009 }
@@ -61,7 +63,7 @@ fn blanks(columns: &[u8]) -> usize
 }
 
 // The value of columns whose blanks and mark end at `start`, where no zero stands: two digits a turn, then the last.
-// By index: with `as_chunks` here and `take_while` above, reading a record takes a third longer.
+// By index: with `as_chunks` here, and `take_while` in `blanks`, a record is read in a third more.
 fn digits_after(columns: &[u8], start: usize, mark: u8) -> Option<i64>
     requires digits_from { DigitsFrom columns.now start mark }
     requires no_leading_zero { get_or columns.now start 0 ≡ 48 → ⊥ }

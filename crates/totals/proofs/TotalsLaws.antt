@@ -1,6 +1,6 @@
 -- Totals of a cell: a turn of the loop that adds them up; what a cell of a right river holds under an accepted set is
 -- small enough to be added in 64 bits; the number of a call by that of the set. No assumptions.
-use Prim.Native.Nat.{ℕ, zero, suc, ◌-◌, ◌<◌, ◌≤◌, ◌+◌, ◌*◌, ◌/◌, ◌^◌}
+use Prim.Native.Nat.{ℕ, zero, suc, ◌-◌, ◌<◌, ◌≤◌, ◌+◌, ◌^◌}
 use mathlib.Core.Bool.{Bool, true, false, not, cond}
 use mathlib.Core.List.{List, [], ◌∷◌, map}
 use mathlib.Core.Path.{◌≡◌, refl, sym, ap, ◌∙◌}
@@ -9,10 +9,7 @@ use native.Mathlib.Omega.{arith}
 use borrow.Author.Tests.{ne_eqb, eqb-true, leb-true}
 use lib.Dec.{eqb, leb, lit<}
 use lib.IntN.{ℤ, pos, nat_abs, ◌+ℤ◌, ◌*ℤ◌}
-use lib.ListN.{length, get_or, take, drop}
-use Rattle.std.proofs.lemmas.List.{get_or-take, get_or-drop}
-use Rattle.std.specs.Simd.{first_chunks}
-use Rattle.numeric.proofs.ChunkLaws.{chunk_is}
+use lib.ListN.{length, get_or}
 use Rattle.numeric.specs.Check.{all_of, ◌when◌, first_holding}
 use Rattle.numeric.specs.Sum.{sum}
 use Rattle.numeric.proofs.Bounds.{abs_at, abs_mul_le}
@@ -30,7 +27,7 @@ use Rattle.stoichiometry.specs.Sets.{set_checks, set_number}
 use Rattle.stoichiometry.proofs.SetNumber.{adds_up_lem}
 use Rattle.stoichiometry.proofs.Totals.{cell_eq}
 use Rattle.river.specs.declared.River.{River}
-use Rattle.river.specs.Rivers.{most_cells, highest_at, river_wrong, cell_exists}
+use Rattle.river.specs.Rivers.{highest_at, river_wrong, cell_exists}
 use Rattle.river.proofs.Bounds.{fits_size}
 use Rattle.river.proofs.Rivers.{amount_fits_at}
 use Rattle.std.specs.Prelude.{Err}
@@ -101,43 +98,28 @@ light set e t xp = formula_light set t xp refl
 light set e t h2o = formula_light set t h2o refl
 light set e t n2 = formula_light set t n2 refl
 
--- The amounts of one cell, as the code takes them out.
-abbrev pub cell_amounts : List ℤ → ℕ → List ℤ
-cell_amounts amounts c = take substances (drop (c * substances) amounts)
-
-cell_amount : (amounts : List ℤ) (c s : ℕ) → s < substances
-    → get_or (cell_amounts amounts c) s (pos 0) ≡ amount_at amounts c s
-cell_amount amounts c s h =
-    get_or-take substances (drop (c * substances) amounts) s (pos 0) h
-    ∙ get_or-drop (c * substances) amounts s (pos 0)
-
 first_cell : (amounts : List ℤ) (s : ℕ) → amount_at amounts 0 s ≡ get_or amounts s (pos 0)
 first_cell amounts s = ap (λ (j : ℕ). get_or amounts j (pos 0)) (zero-add s)
 
-pub chunk_of : (amounts : List ℤ) (cells : List (List ℤ)) (c : ℕ)
-    → cells ≡ first_chunks substances (length amounts / substances) amounts → length amounts ≡ most_cells * substances
-    → c < most_cells → get_or cells c [] ≡ cell_amounts amounts c
-chunk_of amounts cells c e long h = rw e (chunk_is substances (length amounts / substances) amounts c (omega arith))
+-- The amounts of cell c alone, as the code cuts them out: they hold what the cell holds.
+pub cell_alone : (set : Set) (amounts cell : List ℤ) (c : ℕ)
+    → ((s : ℕ) → s < substances → get_or cell s (pos 0) ≡ amount_at amounts c s)
+    → totals_in set cell 0 ≡ totals_in set amounts c
+cell_alone set amounts cell c cut =
+    same_totals (λ t. cell_total set t cell 0) (λ t. cell_total set t amounts c)
+    (λ t. cell_eq set t cell amounts 0 c (λ s l. first_cell cell s ∙ cut s l))
 
--- They hold what the cell holds.
-pub cell_alone : (set : Set) (amounts : List ℤ) (c : ℕ)
-    → totals_in set (cell_amounts amounts c) 0 ≡ totals_in set amounts c
-cell_alone set amounts c =
-    let alone = cell_amounts amounts c in
-    same_totals (λ t. cell_total set t alone 0) (λ t. cell_total set t amounts c)
-    (λ t. cell_eq set t alone amounts 0 c (λ s l. first_cell alone s ∙ cell_amount amounts c s l))
-
--- The amounts of a right river's cell under a set of which check 1 does not hold.
-pub cell_addable : (set : Set) (r : River) → fractions_wrong set ≡ false → river_wrong r ≡ false → (c : ℕ) → c < r.cells
-    → AddableAmounts set (cell_amounts r.amounts c)
+-- They are those of a right river, under a set of which check 1 does not hold.
+pub cell_addable : (set : Set) (r : River) → fractions_wrong set ≡ false → river_wrong r ≡ false → (cell : List ℤ)
+    → (c : ℕ) → c < r.cells → ((s : ℕ) → s < substances → get_or cell s (pos 0) ≡ amount_at r.amounts c s)
+    → AddableAmounts set cell
 unfolding contents held_at most_held
-cell_addable set r e right c h = record { within = small }
+cell_addable set r e right cell c h cut = record { within = small }
   where
-    small : (t : Total) (s : ℕ) → s < substances
-        → nat_abs (contents set t s (get_or (cell_amounts r.amounts c) s (pos 0))) ≤ most_held s
+    small : (t : Total) (s : ℕ) → s < substances → nat_abs (contents set t s (get_or cell s (pos 0))) ≤ most_held s
     small t s l =
         let amount = amount_at r.amounts c s in
-        rw (cell_amount r.amounts c s l)
+        rw (cut s l)
         (abs_mul_le amount (held_at set t s) (fits_size s amount l (amount_fits_at r right c s h l))
         (abs_at order (held set t) heaviest s (light set e t)))
 

@@ -4,7 +4,6 @@
 ghost use Rattle.std.specs.Prelude.{◌≡◌};
 ghost use Rattle.totals.specs.Totals.{total_list, totals_answer};
 
-use numeric::in_range;
 use river::River;
 use rows::check;
 use stoichiometry::{Refusal, SUBSTANCES, Set};
@@ -44,9 +43,7 @@ pub fn totals_of(set: Set, river: River, cell: u32) -> Result<Totals, Refusal>
 {
     check(set)?;
     river.checked()?;
-    if !in_range(1, river.cells, cell) {
-        return Err(Refusal::Place);
-    }
+    let c = river.place_of(cell)?;
     let (cells, _) = river.amounts.as_chunks::<SUBSTANCES>();
-    Ok(Totals::of_cell(set, &cells[(cell - 1) as usize]))
+    Ok(Totals::of_cell(set, &cells[c]))
 }

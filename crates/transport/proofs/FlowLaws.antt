@@ -18,7 +18,7 @@ use Rattle.numeric.proofs.Difference.{up, dn}
 use Rattle.numeric.proofs.Expression.{v, #, ◌⊕◌, ◌⊖◌, at_most, at_most_of, below_of}
 use Rattle.std.proofs.lemmas.Int.{unsigned_abs-mul}
 use Rattle.numeric.proofs.Bounds.{parts_mono}
-use Rattle.numeric.proofs.Quotient.{quot_neg, quot_split, abs_quot}
+use Rattle.numeric.proofs.Quotient.{quot_neg, split_nat, abs_quot}
 use Rattle.numeric.proofs.CheckLaws.{row_in, row_beyond, first_last}
 use Rattle.numeric.proofs.TableLaws.{get_or-tab}
 use Rattle.stoichiometry.specs.Substances.{substances}
@@ -37,7 +37,7 @@ share_le part m h = let k : m * part ≤ m * 10000 = mul-le-mul_left m h in omeg
 
 -- The size divided first.
 pub share_parts : (m part : ℕ) → m / 10000 * part + m % 10000 * part / 10000 ≡ m * part / 10000
-share_parts m part = ap nat_abs (quot_split (pos m) part 10000 (lit< tt))
+share_parts m part = split_nat m part 10000 (lit< tt)
 
 -- Of a larger size no less passes and no less stays.
 share_mono : (part : ℕ) {m n : ℕ} → part ≤ 10000 → m ≤ n

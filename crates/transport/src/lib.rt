@@ -8,7 +8,7 @@ ghost use Rattle.transport.specs.Air.{air_answer};
 
 use crate::air::Exchange;
 use crate::flow::{Part, move_amounts};
-use crate::load::sum_fits;
+use crate::load::sum;
 use numeric::in_range;
 use river::{AMOUNTS, River};
 use stoichiometry::{Refusal, SUBSTANCES, place};
@@ -43,21 +43,19 @@ impl Aired {
 
 // Changes an amount by `added`, the whole number added, of either sign; the cell and the substance are counted from 1.
 // Refuses with 4, 5 or 8, in this order.
-#[tactic(auto, using(river::proofs::CheckedLaws::four_holds, river::proofs::CheckedLaws::four_passed), unfolding(crate::specs::Load::load_answer, crate::specs::Load::load_number, numeric::specs::Check::first_holding))]
+#[tactic(auto, using(river::proofs::CheckedLaws::four_holds, river::proofs::CheckedLaws::four_passed, river::proofs::CheckedLaws::five_holds, river::proofs::CheckedLaws::five_passed), unfolding(crate::specs::Load::load_answer, crate::specs::Load::load_number, numeric::specs::Check::first_holding))]
 pub fn load_river(mut river: River, cell: u32, substance: u32, added: i64) -> Result<River, Refusal>
     ensures answer { result ≡ load_answer river cell substance added }
 {
     river.checked()?;
-    if !in_range(1, river.cells, cell) || !in_range(1, SUBSTANCES as u32, substance) {
+    let c = river.place_of(cell)?;
+    if !in_range(1, SUBSTANCES as u32, substance) {
         return Err(Refusal::Place);
     }
     let s = (substance - 1) as usize;
-    let at = (cell - 1) as usize * SUBSTANCES + s;
-    let amount = river.amounts[at];
-    if !sum_fits(s, amount, added) {
-        return Err(Refusal::Bounds);
-    }
-    river.amounts[at] = amount + added;
+    // By its place in the list, here and in `air_river`: of a cell that `as_chunks_mut` lent nothing would be known after.
+    let at = c * SUBSTANCES + s;
+    river.amounts[at] = sum(s, river.amounts[at], added).ok_or(Refusal::Bounds)?;
     Ok(river)
 }
 
@@ -86,7 +84,7 @@ pub fn flow_river(river: River, part: u32) -> Result<Flowed, Refusal>
 // Exchange of O2 between a cell, counted from 1, and the air. Answers the river with the cell's O2 changed, and the
 // gain. Refuses with 4, 5 or 6, in this order. That the O2 after is in its bounds is not tested: it always is, by the
 // law air_never_eight.
-#[tactic(auto, using(river::proofs::CheckedLaws::four_holds, river::proofs::CheckedLaws::four_passed), unfolding(crate::specs::Air::air_answer, crate::specs::Air::air_number, numeric::specs::Check::first_holding))]
+#[tactic(auto, using(river::proofs::CheckedLaws::four_holds, river::proofs::CheckedLaws::four_passed, river::proofs::CheckedLaws::five_holds, river::proofs::CheckedLaws::five_passed), unfolding(crate::specs::Air::air_answer, crate::specs::Air::air_number, numeric::specs::Check::first_holding))]
 pub fn air_river(
     mut river: River,
     cell: u32,
@@ -97,18 +95,8 @@ pub fn air_river(
     ensures answer { result ≡ air_answer river cell constant seconds saturation }
 {
     river.checked()?;
-    if !in_range(1, river.cells, cell) {
-        return Err(Refusal::Place);
-    }
-    let exchange = Exchange {
-        constant,
-        seconds,
-        saturation,
-    };
-    if exchange.is_wrong() {
-        return Err(Refusal::Conditions);
-    }
-    let at = (cell - 1) as usize * SUBSTANCES + place::O2;
+    let at = river.place_of(cell)? * SUBSTANCES + place::O2;
+    let exchange = Exchange::new(constant, seconds, saturation)?;
     let before = river.amounts[at];
     let amount = exchange.gain(before);
     river.amounts[at] = before + amount;

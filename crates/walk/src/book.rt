@@ -8,42 +8,48 @@ use totals::totals_of;
 // The cells of the walk.
 pub(crate) const CELLS: usize = 4;
 
-// What stands for a cell in a list of amounts.
-fn contents(set: Set, amounts: [i64; AMOUNTS], cell: u32) -> Contents {
-    let held = River {
-        cells: River::CELLS_MOST as u32,
-        amounts,
-        carries: [0; CARRIES],
-    };
-    totals_of(set, held, cell).map_or(Contents::NONE, Contents::from)
-}
-
-// What a number, not negative, of a substance contains; the substance is counted from 1.
-fn contents_of(set: Set, substance: u32, number: i64) -> Contents {
-    let mut amounts = [0; AMOUNTS];
-    if let Some(place) = (substance as usize).checked_sub(1)
-        && let Some(amount) = amounts.get_mut(place)
-    {
-        *amount = number;
-    }
-    contents(set, amounts, 1)
-}
-
-// Cells are counted from 1. Nothing is booked of a cell that is not there: what the last one passes down goes away.
+// The set, and what each cell holds. Cells are counted from 1. Nothing is booked of a cell that is not there: what the
+// last one passes down goes away.
 #[derive(Clone, Copy)]
 pub(crate) struct Book {
+    set: Set,
     cells: [Contents; CELLS],
 }
 
 impl Book {
-    pub(crate) const EMPTY: Book = Book {
-        cells: [Contents::NONE; CELLS],
-    };
+    // Nothing is booked at first.
+    pub(crate) fn of(set: Set) -> Book {
+        Book {
+            set,
+            cells: Default::default(),
+        }
+    }
+
+    // What stands for a cell in a list of amounts.
+    fn contents(&self, amounts: [i64; AMOUNTS], cell: u32) -> Contents {
+        let held = River {
+            cells: River::CELLS_MOST as u32,
+            amounts,
+            carries: [0; CARRIES],
+        };
+        Contents::from(totals_of(self.set, held, cell).unwrap_or_default())
+    }
+
+    // What a number, not negative, of a substance contains; the substance is counted from 1.
+    fn contents_of(&self, substance: u32, number: i64) -> Contents {
+        let mut amounts = [0; AMOUNTS];
+        if let Some(place) = (substance as usize).checked_sub(1)
+            && let Some(amount) = amounts.get_mut(place)
+        {
+            *amount = number;
+        }
+        self.contents(amounts, 1)
+    }
 
     pub(crate) fn cell(&self, cell: u32) -> Contents {
         let place = (cell as usize).checked_sub(1);
         let held = place.and_then(|place| self.cells.get(place).copied());
-        held.unwrap_or(Contents::NONE)
+        held.unwrap_or_default()
     }
 
     fn enter(&mut self, cell: u32, what: Contents) {
@@ -54,20 +60,22 @@ impl Book {
         }
     }
 
-    // A number, of either sign, of a substance that came to a cell, as a call of load has them.
-    pub(crate) fn enter_number(&mut self, set: Set, cell: u32, substance: u32, number: i64) {
+    // A number, of either sign, of a substance that came to a cell: three numbers, as the call of load has them, so that
+    // its caller hands on what it has.
+    pub(crate) fn enter_number(&mut self, cell: u32, substance: u32, number: i64) {
         if number < 0 {
-            let lost = contents_of(set, substance, number.saturating_neg());
+            let lost = self.contents_of(substance, number.saturating_neg());
             self.enter(cell, -lost);
         } else {
-            self.enter(cell, contents_of(set, substance, number));
+            let came = self.contents_of(substance, number);
+            self.enter(cell, came);
         }
     }
 
     // What a flow lists: what left a cell went to the next.
-    pub(crate) fn enter_flow(&mut self, set: Set, left: [i64; AMOUNTS]) {
+    pub(crate) fn enter_flow(&mut self, left: [i64; AMOUNTS]) {
         for cell in 1..=CELLS as u32 {
-            let what = contents(set, left, cell);
+            let what = self.contents(left, cell);
             self.enter(cell, -what);
             self.enter(cell + 1, what);
         }

@@ -6,12 +6,8 @@ use totals::Totals;
 const TOTALS: usize = 6;
 
 // C, H, O, N, P and charge, grains. None of the walk comes near the limits of 64 bits.
-#[derive(Clone, Copy)]
+#[derive(Clone, Copy, Default)]
 pub(crate) struct Contents([i64; TOTALS]);
-
-impl Contents {
-    pub(crate) const NONE: Contents = Contents([0; TOTALS]);
-}
 
 impl Add for Contents {
     type Output = Contents;

@@ -29,65 +29,66 @@ impl<'a, P: Print> Walk<'a, P> {
             rt,
             set,
             river,
-            book: Book::EMPTY,
+            book: Book::of(set),
         })
     }
 
-    pub(crate) fn load(mut self, cell: u32, substance: u32, number: i64) -> Result<Walk<'a, P>> {
-        let before = self.river;
-        let answer = load_river(before, cell, substance, number);
-        println!(self.rt; "load {}", number_of(&answer))?;
-        let set = self.set;
-        if let Ok(river) = answer {
-            self.river = river;
-            self.book.enter_number(set, cell, substance, number);
+    // What follows a call: its name and the number of its answer are printed, and what it answers is taken; a refused
+    // call leaves river and book.
+    fn after<T: Copy, F: FnOnce(&mut Walk<'a, P>, T)>(
+        mut self,
+        call: &str,
+        answer: std::result::Result<T, Refusal>,
+        take: F,
+    ) -> Result<Walk<'a, P>>
+        requires { F.IsAlwaysCallable take }
+    {
+        println!(self.rt; "{call} {}", number_of(&answer))?;
+        if let Ok(answered) = answer {
+            take(&mut self, answered);
         }
         Ok(self)
     }
 
-    pub(crate) fn flow(mut self, part: u32) -> Result<Walk<'a, P>> {
-        let before = self.river;
-        let answer = flow_river(before, part);
-        println!(self.rt; "flow {}", number_of(&answer))?;
-        let set = self.set;
-        if let Ok(flowed) = answer {
-            self.river = flowed.river;
-            self.book.enter_flow(set, flowed.left);
-        }
-        Ok(self)
+    pub(crate) fn load(self, cell: u32, substance: u32, number: i64) -> Result<Walk<'a, P>> {
+        let answer = load_river(self.river, cell, substance, number);
+        self.after("load", answer, |walk, river| {
+            walk.river = river;
+            walk.book.enter_number(cell, substance, number);
+        })
+    }
+
+    pub(crate) fn flow(self, part: u32) -> Result<Walk<'a, P>> {
+        let answer = flow_river(self.river, part);
+        self.after("flow", answer, |walk, flowed| {
+            walk.river = flowed.river;
+            walk.book.enter_flow(flowed.left);
+        })
     }
 
     pub(crate) fn air(
-        mut self,
+        self,
         cell: u32,
         constant: u32,
         seconds: u32,
         saturation: u32,
     ) -> Result<Walk<'a, P>> {
-        let before = self.river;
-        let answer = air_river(before, cell, constant, seconds, saturation);
-        println!(self.rt; "air {}", number_of(&answer))?;
-        let set = self.set;
-        if let Ok(aired) = answer {
-            self.river = aired.river;
-            self.book.enter_number(set, cell, O2, aired.amount);
-        }
-        Ok(self)
+        let answer = air_river(self.river, cell, constant, seconds, saturation);
+        self.after("air", answer, |walk, aired| {
+            walk.river = aired.river;
+            walk.book.enter_number(cell, O2, aired.amount);
+        })
     }
 
     // A step at a temperature at which every temperature factor is `warmth`, millionths.
-    pub(crate) fn step(mut self, seconds: u32, light: u32, warmth: u32) -> Result<Walk<'a, P>> {
-        let set = self.set;
-        let before = self.river;
+    pub(crate) fn step(self, seconds: u32, light: u32, warmth: u32) -> Result<Walk<'a, P>> {
         let given = Conditions {
             seconds,
             light,
             temperatures: Temperatures::all(warmth),
         };
-        let answer = step_river(set, before, given);
-        println!(self.rt; "step {}", number_of(&answer))?;
-        self.river = answer.unwrap_or(before);
-        Ok(self)
+        let answer = step_river(self.set, self.river, given);
+        self.after("step", answer, |walk, river| walk.river = river)
     }
 
     // C, H, O, N, P and charge of each cell: held, and booked.
@@ -95,7 +96,7 @@ impl<'a, P: Print> Walk<'a, P> {
         let set = self.set;
         let river = self.river;
         for cell in 1..=CELLS as u32 {
-            let held = totals_of(set, river, cell).map_or(Contents::NONE, Contents::from);
+            let held = Contents::from(totals_of(set, river, cell).unwrap_or_default());
             println!(self.rt; "holds {cell} {held}")?;
             let booked = self.book.cell(cell);
             println!(self.rt; "book  {cell} {booked}")?;

@@ -16,7 +16,7 @@ impl fmt::Display for Level {
 }
 
 // The level at a place of a cell's amounts; 0 where there is no such place. The list below has place and unit of each.
-fn level_at(cell: &[i64], at: usize, microgram: Microgram) -> Level {
+fn level_at(cell: &[i64; SUBSTANCES], at: usize, microgram: Microgram) -> Level {
     Level(microgram.level(cell.get(at).copied().unwrap_or(0)))
 }
 
@@ -24,7 +24,7 @@ fn level_at(cell: &[i64], at: usize, microgram: Microgram) -> Level {
 // phosphate in g of P.
 pub(crate) fn write_levels(rt: &impl Print, amounts: &[i64; AMOUNTS]) -> Result<()> {
     println!(rt; "g/m3      cell 1    cell 2")?;
-    let (first, others) = amounts.split_at(SUBSTANCES);
+    let (cells, _) = amounts.as_chunks::<SUBSTANCES>();
     let substances = [
         ("SS", place::SS, Organic),
         ("SI", place::SI, Organic),
@@ -42,8 +42,8 @@ pub(crate) fn write_levels(rt: &impl Print, amounts: &[i64; AMOUNTS]) -> Result<
         ("XP", place::XP, Phosphorus),
     ];
     for (name, at, microgram) in substances {
-        let in_first = level_at(first, at, microgram);
-        let in_second = level_at(others, at, microgram);
+        let in_first = level_at(&cells[0], at, microgram);
+        let in_second = level_at(&cells[1], at, microgram);
         println!(rt; "{name:<6}{in_first}{in_second}")?;
     }
     Ok(())

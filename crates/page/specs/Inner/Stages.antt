@@ -1,8 +1,7 @@
 -- What the inner functions of the writer hand to each other. Laws: proofs/FigureLaws.antt. No assumptions.
-use Rattle.std.specs.Prelude.{ℕ, ◌+◌, ◌/◌, ◌%◌, ◌≤◌, List, [], ◌∷◌, ◌++◌, ◌≡◌, ℤ, nat_abs, length, get_or}
+use Rattle.std.specs.Prelude.{ℕ, ◌+◌, ◌/◌, ◌%◌, ◌≤◌, List, [], ◌∷◌, ◌++◌, ℤ, nat_abs, get_or}
 use Rattle.std.specs.List.{flat_map}
-use Rattle.stoichiometry.specs.Substances.{most_grains, o2, place}
-use Rattle.stoichiometry.specs.Levels.{most_level}
+use Rattle.stoichiometry.specs.Substances.{most_organic, most_grains, organic, ss, nh4, no2, no3, hpo4, o2, place}
 use Rattle.stoichiometry.specs.Totals.{amount_at}
 use Rattle.river.specs.Cells.{byte, letter_of}
 use Rattle.text.specs.Blocks.{blocks}
@@ -32,15 +31,14 @@ figures_of level =
     flat_map (λ pair. pair) (whole_of (n / 1000))
     ++ (46 ∷ (48 + n / 100 % 10) ∷ (48 + n / 10 % 10) ∷ (48 + n % 10) ∷ [])
 
--- Six levels, in bounds.
-abbrev pub LevelsWithin : List ℕ → Type 0
-LevelsWithin levels = (length levels ≡ 6) × ((i : ℕ) → get_or levels i 0 ≤ most_level)
-
--- Of a cell's own amounts, which are those of cell 0 of a list: the ones up to O2 are in the bounds of grains, and the
--- levels in theirs.
+-- Of a cell's own amounts, which are those of cell 0 of a list: the six that a row shows are in their bounds.
 pub record CellFits (cell : List ℤ) : Type 0 where
-  pub small : (s : ℕ) → s ≤ place o2 → nat_abs (amount_at cell 0 s) ≤ most_grains
-  pub levels : LevelsWithin (levels_at cell 0)
+  pub substrate : nat_abs (amount_at cell 0 (place (organic ss))) ≤ most_organic
+  pub ammonium : nat_abs (amount_at cell 0 (place nh4)) ≤ most_grains
+  pub nitrite : nat_abs (amount_at cell 0 (place no2)) ≤ most_grains
+  pub nitrate : nat_abs (amount_at cell 0 (place no3)) ≤ most_grains
+  pub phosphate : nat_abs (amount_at cell 0 (place hpo4)) ≤ most_grains
+  pub oxygen : nat_abs (amount_at cell 0 (place o2)) ≤ most_grains
 
 -- The row of cell c of a river, which has these amounts.
 abbrev pub cell_row : ℕ → List ℤ → List ℕ

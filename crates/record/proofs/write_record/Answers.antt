@@ -46,5 +46,5 @@ returns c =
     record {
       answer = ap (λ (n : ℕ). answer_of n tt) (sym (write_accepted r _ _ passed.0 room space));
       output = written ∙ sym (output_written r c.args.output.now);
-      work = work_written r _ _ c.args.work.now _ room space written c.copy_bytes.ensures.to;
+      work = work_written r _ _ c.args.work.now _ written c.copy_from_slice.ensures.after;
     }

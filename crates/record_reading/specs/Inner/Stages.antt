@@ -1,11 +1,12 @@
 -- What the inner functions of the reader hand to each other: the values of a cell by its text alone. No assumptions.
-use Rattle.std.specs.Prelude.{ℕ, ◌+◌, ◌*◌, Bool, List, ℤ, pos, nat_abs, Option, is_some, unwrap_or}
+use Rattle.std.specs.Prelude.{ℕ, ◌+◌, ◌*◌, ◌/◌, Bool, ◌&&◌, cond, List, eqb, ℤ, pos, nat_abs, Option, Some, None, is_some, unwrap_or}
 use Rattle.numeric.specs.Check.{every}
 use Rattle.numeric.specs.Table.{tab}
 use Rattle.stoichiometry.specs.Substances.{substances}
 use Rattle.stoichiometry.specs.Rows.{processes}
 use Rattle.text.specs.Blocks.{part}
-use Rattle.record.specs.Lines.{lines, line_bytes}
+use Rattle.river.specs.Rivers.{cells_fit}
+use Rattle.record.specs.Lines.{lines, line_bytes, cell_bytes}
 use Rattle.record_reading.specs.Reading.{line_value, lowest_on, highest_on}
 
 -- The value on line k of the text of cell c, both from 0.
@@ -26,3 +27,10 @@ amounts_found t c = tab substances (number_in t c)
 
 abbrev pub carries_found : List ℕ → ℕ → List ℕ
 carries_found t c = tab processes (λ p. nat_abs (number_in t c (substances + p)))
+
+-- How many cells a text of this many bytes is of, if they are 1 to 8 and no byte is left.
+abbrev pub size_right : ℕ → Bool
+size_right bytes = cells_fit (bytes / cell_bytes) && eqb (bytes / cell_bytes * cell_bytes) bytes
+
+abbrev pub cells_of : ℕ → Option ℕ
+cells_of bytes = cond (size_right bytes) (Some (bytes / cell_bytes)) None

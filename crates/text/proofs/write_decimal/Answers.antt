@@ -5,19 +5,21 @@ use Rattle.text.specs.Decimals.{decimal}
 use Rattle.text.proofs.WriteLaws.{put_within_lem, put_refused, mid_written}
 use Rattle.text.proofs.DecimalLaws.{decimal-length}
 use Rattle.text.proofs.write_decimal.Goals as goal
+use Rattle.text.proofs.write_decimal.Goals.{else-at-out-via-then-at-out+else-width-out, else-at-out-via-else-at-out}
 
--- `at` is past the end.
-pub returns-then-out-at : goal.returns-then-out-at
-returns-then-out-at c =
-    record { out = sym (put_refused _ _ c.args.width _ (decimal-length c.args.width c.args.value) (omega arith)) }
+-- `at` is past the end, or not all columns are there.
+pub returns-else-at-out : goal.returns-else-at-out
+returns-else-at-out c =
+    let all = decimal-length c.args.width c.args.value in
+    elim c.else-at-out.branch [
+      | else-at-out-via-then-at-out+else-width-out w ↦
+          record { out = sym (put_refused _ _ c.args.width _ all (omega (arith, w.if-at-out.true, w.if-width-out.false))) }
+      | else-at-out-via-else-at-out w ↦
+          record { out = sym (put_refused _ _ c.args.width _ all (omega (arith, w.if-at-out.false))) }
+    ]
 
--- Not all columns are there.
-pub returns-then-out-at-2 : goal.returns-then-out-at-2
-returns-then-out-at-2 c =
-    record { out = sym (put_refused _ _ c.args.width _ (decimal-length c.args.width c.args.value) (omega arith)) }
-
-pub returns : goal.returns
-returns c =
+pub returns-then-width-out : goal.returns-then-width-out
+returns-then-width-out c =
     let l = c.args.out.now in
     let w = c.args.width in
     let count : c.args.at + w - c.args.at ≡ w = omega arith in

@@ -3,7 +3,7 @@ use mathlib.Core.Bool.{Bool, true, false, cond, ◌&&◌}
 use Rattle.std.proofs.Common.{◌≡◌, List, ℕ, ℤ, Option, Some, None, rules, refl, sym, ap, ap₂, ◌∙◌, arith, w64, to_z, of_z, to_z-of_z}
 use Rattle.std.specs.Prelude.{option_and_then, MatchOption}
 use Rattle.std.specs.Bool.{then_some}
-use Rattle.numeric.proofs.Bounds.{fits_abs}
+use Rattle.std.proofs.lemmas.Int.{fits_signed_from_abs}
 use lib.Signed.{le_z}
 use mir.Val.{SFits}
 use Rattle.text_reading.specs.Reading.{within, value_of, parse}
@@ -29,7 +29,7 @@ accepted : (lowest highest : ℤ) → SFits w64 lowest → SFits w64 highest →
 unfolding parse within
 accepted lowest highest low high t None r e m = m ∙ ap (option_and_then (within lowest highest)) e
 accepted lowest highest low high t (Some z) r e (b, held, m) =
-    let fits = fits_abs z (omega (arith, value_bound t z (sym e))) in
+    let fits = fits_signed_from_abs w64 z (omega (arith, value_bound t z (sym e))) in
     let passed = held ∙ ap₂ ◌&&◌ (bits_le lowest z low fits) (bits_le z highest fits high) in
     m ∙ ap (λ (x : Bool). then_some x z) passed ∙ some_if _ z ∙ ap (option_and_then (within lowest highest)) e
 

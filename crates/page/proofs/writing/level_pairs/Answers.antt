@@ -6,5 +6,6 @@ use Rattle.page.proofs.writing.level_pairs.Goals as goal
 
 pub returns : goal.returns
 returns c =
+    let level = c.args.level in
     rw (c.whole.ensures, c.pair.ensures)
-    (ap (λ (l : List ℕ). 32 ∷ 32 ∷ l) (rest_figures c.args.level) ∙ sym (grams_split c.args.level c.requires))
+    (ap (λ (l : List ℕ). 32 ∷ 32 ∷ l) (rest_figures level.micrograms) ∙ sym (grams_split level.micrograms level.most))

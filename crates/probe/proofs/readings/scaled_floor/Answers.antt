@@ -1,17 +1,13 @@
 -- The bits' fields give the exact value (proofs/ReadingLaws.antt). No assumptions.
-use Rattle.std.proofs.Common.{◌≡◌, ◌*◌, ◌/◌, ◌%◌, ◌+◌, Bool, true, sym, ◌∙◌, subst, arith}
-use native.Mathlib.Nat.{mod-lt, lt_of_lt_of_le}
-use lib.Dec.{T, lit<, lit≤}
+use Rattle.std.proofs.lemmas.Float.{T_from_true}
+use Rattle.std.proofs.Common.{◌≡◌, ◌*◌, ◌/◌, ◌%◌, ◌+◌, true, sym, ◌∙◌, arith}
+use native.Mathlib.Nat.{mod-lt}
+use lib.Dec.{T, lit<}
 use lib.Ieee.{Float, binary32, to_bits, fits}
-use lib.Ieee.Bits.{to_bits-lt}
 use Rattle.probe.specs.Readings.{reading_fits}
 use Rattle.probe.specs.declared.readings.Scale.{Scale}
-use Rattle.probe.proofs.ReadingLaws.{Fields, fields_of, fits_64, shifted_out, no_nan}
+use Rattle.probe.proofs.ReadingLaws.{Fields, fields_of, fits_64, shifted_by, no_nan}
 use Rattle.probe.proofs.readings.scaled_floor.Goals as goal
-
--- An f32 is a value of its format.
-in_format : {b : Bool} → b ≡ true → T b
-in_format e = subst T (sym e) tt
 
 fields : (x : Float) (scale : Scale) → T (fits binary32 x) → reading_fits x ≡ true
     → Fields x (to_bits binary32 x % 2147483648 / 8388608) (to_bits binary32 x % 8388608) scale.numerator scale.denominator
@@ -20,28 +16,20 @@ fields x scale format reading = fields_of x scale.numerator scale.denominator fo
 pub float_to_bits-bits : goal.float_to_bits-bits
 float_to_bits-bits c = no_nan c.args.x c.requires
 
-pub overflow_cast-bits : goal.overflow_cast-bits
-overflow_cast-bits c = record { fits = lt_of_lt_of_le (to_bits-lt binary32 c.args.x (in_format c.well_formed.0.1)) (lit≤ tt) }
-
 pub returns-then-field-eq0 : goal.returns-then-field-eq0
 returns-then-field-eq0 c =
-    sym ((fields c.args.x c.args.scale (in_format c.well_formed.0.1) c.requires).none c.if-field-eq0.true)
+    sym ((fields c.args.x c.args.scale (T_from_true _ c.well_formed.0.1) c.requires).none c.if-field-eq0.true)
 
 pub overflow_sub-shift : goal.overflow_sub-shift
 overflow_sub-shift c =
-    omega (arith, (fields c.args.x c.args.scale (in_format c.well_formed.0.1) c.requires).high)
+    omega (arith, (fields c.args.x c.args.scale (T_from_true _ c.well_formed.0.1) c.requires).high)
 
-pub returns-then-shift-lt64 : goal.returns-then-shift-lt64
-returns-then-shift-lt64 c =
-    sym ((fields c.args.x c.args.scale (in_format c.well_formed.0.1) c.requires).some c.if-field-eq0.false)
-
--- Nothing is left after a shift by 64 or more.
-pub returns-else-shift-lt64 : goal.returns-else-shift-lt64
-returns-else-shift-lt64 c =
+pub returns : goal.returns
+returns c =
     let bits = to_bits binary32 c.args.x in
     let scale = c.args.scale in
     let digits = bits % 8388608 in
     let fit = fits_64 digits scale.numerator (mod-lt bits (lit< tt)) scale.in_range.0 in
-    sym
-    ((fields c.args.x scale (in_format c.well_formed.0.1) c.requires).some c.if-field-eq0.false
-    ∙ shifted_out ((8388608 + digits) * scale.numerator) scale.denominator _ fit c.if-shift-lt64.false)
+    rw (c.unbounded_shr.ensures, c.from.ensures)
+    (shifted_by ((8388608 + digits) * scale.numerator) scale.denominator _ fit
+    ∙ sym ((fields c.args.x scale (T_from_true _ c.well_formed.0.1) c.requires).some c.if-field-eq0.false))

@@ -15,12 +15,6 @@ pub loop-c-init : goal.loop-c-init
 loop-c-init c =
     (every-none _, made_none most_cells substances _ (pos 0) _, made_none most_cells processes _ 0 _)
 
-pub bounds-amounts-c : goal.bounds-amounts-c
-bounds-amounts-c c = omega (arith, c.loop-c-test.true, c.as_chunks.ensures.front_len, c.requires)
-
-pub bounds-carries-c : goal.bounds-carries-c
-bounds-carries-c c = omega (arith, c.loop-c-test.true, c.as_chunks.ensures.front_len, c.requires)
-
 pub returns-in_err-read_cell-clause-value : goal.returns-in_err-read_cell-clause-value
 unfolding lines_right
 returns-in_err-read_cell-clause-value c =

@@ -1,10 +1,11 @@
--- `other_changes` meets its contract: each operation fits, by the bounds of `InReleased`, `InKind` and e. The expressions
--- have their names in RowArithmetic.antt. No assumptions.
+-- `other_changes` meets its contract: each operation fits, by what `Released` and `Kind` keep and the bound of e. The
+-- expressions have their names in RowArithmetic.antt. No assumptions.
 use Rattle.std.proofs.Common.{[], ◌∷◌, pos}
 use Rattle.numeric.proofs.Expression.{Ex, v, #, ◌⊕◌, ◌⊖◌, ◌⊗◌}
 use Rattle.numeric.proofs.Fitting.{Bounded, all, ◌&◌}
 use Rattle.numeric.proofs.Machine.{asked, ran}
 use Rattle.rows.specs.Inner.Code.{most_fifteenth, others_of}
+use Rattle.rows.specs.Inner.Held.{elements_of, numbers_of}
 use Rattle.rows.proofs.RowArithmetic.{◌·◌, atoms, limits, atoms_bounded}
 use Rattle.rows.proofs.RowArithmetic.{hydrogen, nitrogen, phosphorus, adsorbed, no3no2, no2n2, no3n2}
 use Rattle.rows.proofs.RowArithmetic.{freed, to_nitrate, to_nitrite, nh4_oxidised, no2_oxidised, moved, bicarbonate}
@@ -13,8 +14,8 @@ use Rattle.rows.proofs.RowArithmetic.{h2o_change, n2_change}
 use Rattle.rows.proofs.others.other_changes.Goals as goal
 
 known : (c : goal.After-struct_told-12-1)
-    → Bounded (atoms c.args.r c.args.k (c.args.e ∷ [])) (limits (most_fifteenth ∷ []))
-known c = atoms_bounded c.requires.0 c.requires.1 (c.requires.2 & all)
+    → Bounded (atoms (elements_of c.args.r) (numbers_of c.args.k) (c.args.e ∷ [])) (limits (most_fifteenth ∷ []))
+known c = atoms_bounded c.args.r.small c.args.k.small (c.requires & all)
 
 abbrev e : Ex
 e = v 13

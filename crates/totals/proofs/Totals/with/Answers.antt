@@ -1,10 +1,11 @@
 -- `Totals::with` meets its contract: each sum fits, and so does each product. No assumptions.
 use Rattle.std.proofs.Common.{◌≡◌, refl, ◌∙◌, ◌^◌, ◌+◌, ◌<◌, rules, arith, ℤ, nat_abs, ◌+ℤ◌, ◌*ℤ◌}
+use Rattle.std.proofs.lemmas.Int.{fits_signed_from_abs}
 use lib.Signed.{mag}
 use mir.Facts.{to_z-of_z}
 use mir.Syntax.{w64}
 use mir.Val.{SFits}
-use Rattle.numeric.proofs.Bounds.{fits_abs, abs_add}
+use Rattle.numeric.proofs.Bounds.{abs_add}
 use Rattle.numeric.proofs.Machine.{kept, kept_is}
 use Rattle.stoichiometry.specs.Substances.{carbon, hydrogen, oxygen, nitrogen, phosphorus, charge}
 use Rattle.totals.proofs.Totals.with.Goals as goal
@@ -16,7 +17,7 @@ module _ (amount one : ℤ) (a : SFits w64 amount) (o : mag one < 2 ^ 63) (sum :
   product-is = rw (to_z-of_z a, kept_is one o) refl
 
   product_fits : SFits w64 (kept amount *ℤ kept one)
-  product_fits = rw product-is (fits_abs (amount *ℤ one) (omega (arith, small)))
+  product_fits = rw product-is (fits_signed_from_abs w64 (amount *ℤ one) (omega (arith, small)))
 
   product_kept : kept (kept amount *ℤ kept one) ≡ amount *ℤ one
   product_kept = to_z-of_z product_fits ∙ product-is
@@ -25,7 +26,7 @@ module _ (amount one : ℤ) (a : SFits w64 amount) (o : mag one < 2 ^ 63) (sum :
     sum_fits : SFits w64 (kept sum +ℤ kept (kept amount *ℤ kept one))
     sum_fits =
         rw (kept_is sum x, product_kept)
-        (fits_abs (sum +ℤ amount *ℤ one) (omega (arith, small, abs_add sum (amount *ℤ one))))
+        (fits_signed_from_abs w64 (sum +ℤ amount *ℤ one) (omega (arith, small, abs_add sum (amount *ℤ one))))
 
     sum-is : kept (kept sum +ℤ kept (kept amount *ℤ kept one)) ≡ sum +ℤ amount *ℤ one
     sum-is = to_z-of_z sum_fits ∙ rw (kept_is sum x, product_kept) refl

@@ -2,7 +2,8 @@
 -- No assumptions.
 use Rattle.std.proofs.Common.{◌≡◌, ◌+◌, ◌-◌, ◌*◌, [], ◌∷◌, ap, sym, ◌∙◌, arith, get_or, pos, ℤ, ◌+ℤ◌, ◌-ℤ◌, ℕ}
 use native.Mathlib.Nat.{zero-add}
-use lib.ListN.{set}
+use lib.ListN.{set, take}
+use lib.Seq.{get_or-take}
 use Rattle.numeric.proofs.Expression.{v, ◌⊕◌, ◌⊖◌}
 use Rattle.numeric.proofs.Filling.{run_none, run_more, run_beyond}
 use Rattle.numeric.proofs.Fitting.{Bounded, ◌&◌, all}
@@ -55,6 +56,11 @@ came_still c =
     let at = substances + c.loop-j.j in
     ap (λ l. get_or l at (pos 0)) c.loop-j.invariant ∙ run_beyond _ substances c.loop-j.j _ at (pos 0) (omega arith)
 
+-- What comes is an element of the front of the list that is gone over.
+came_same : (c : In-loop-j) → let left = c.args.left.now in
+    get_or (take ((c.args.cells - 1) * substances) left) c.loop-j.j (pos 0) ≡ get_or left c.loop-j.j (pos 0)
+came_same c = get_or-take _ c.args.left.now c.loop-j.j (pos 0) (omega arith)
+
 came_known : (c : In-loop-j)
     → Bounded (get_or c.loop-j.amounts (substances + c.loop-j.j) (pos 0) ∷ get_or c.args.left.now c.loop-j.j (pos 0) ∷ [])
     (2 * most_net ∷ most_net ∷ [])
@@ -66,14 +72,14 @@ came_known c =
 
 pub overflow_add-amounts-in-loop-j : goal.overflow_add-amounts-in-loop-j
 overflow_add-amounts-in-loop-j c =
-    asked (came_known (search)) (v 0 ⊕ v 1) tt
+    rw (came_same (search)) (asked (came_known (search)) (v 0 ⊕ v 1) tt)
 
 pub loop-j-preserved : goal.loop-j-preserved
 loop-j-preserved c =
     let j = c.loop-j.j in
     let came = get_or c.args.left.now j (pos 0) in
-    run_more _ substances j _ c.loop-j.amounts _ c.loop-j.invariant
-    (ran (came_known (search)) (v 0 ⊕ v 1) tt ∙ ap (λ (z : ℤ). z +ℤ came) (came_still (search)))
+    rw (came_same (search)) (run_more _ substances j _ c.loop-j.amounts _ c.loop-j.invariant
+    (ran (came_known (search)) (v 0 ⊕ v 1) tt ∙ ap (λ (z : ℤ). z +ℤ came) (came_still (search))))
 
 pub returns : goal.returns
 returns c =

@@ -1,13 +1,11 @@
 -- `RangedSet::algae` meets its contract: 11 to 14, each with the organic changes that it is called with; each row is stored
 -- after the one before. No assumptions.
-use Rattle.std.proofs.Common.{◌*◌, ◌-◌, ◌≤◌, refl, arith}
-use borrow.Author.Rules.{sfits_of}
+use Rattle.std.proofs.Common.{◌*◌, ◌-◌, ◌≤◌, refl}
 use native.Mathlib.Nat.{mul-le-mul, sub-le}
 use Rattle.stoichiometry.specs.declared.Set.{Set}
 use Rattle.stoichiometry.specs.Substances.{xalg, xs, xi}
 use Rattle.stoichiometry.specs.Rows.{processes_of, process_at}
 use Rattle.rows.specs.Inner.Code.{Ranged}
-use Rattle.rows.proofs.Ranges.{nothing_small}
 use Rattle.rows.proofs.RowEntries.{same_one, same_two, same_three}
 use Rattle.rows.proofs.Storing.{amount-is, figure_is, none_stored, one_more}
 use Rattle.rows.proofs.processes.RangedSet.algae.Goals as goal
@@ -19,29 +17,14 @@ made_le set g = mul-le-mul g.death (sub-le 100 set.inert.algae)
 lost_le : (set : Set) → Ranged set → set.yields.death * set.inert.algae ≤ 10000
 lost_le set g = mul-le-mul g.death g.algae
 
-pub overflow_mul-made : goal.overflow_mul-made
-overflow_mul-made c = omega (arith, made_le c.args.self.now.set.now c.args.self.now.ranged)
+pub invariant_of-xalg : goal.invariant_of-xalg
+invariant_of-xalg c = record { thousandths = c.args.self.now.ranged.fractions xalg }
 
-pub overflow_cast-made : goal.overflow_cast-made
-overflow_cast-made c = sfits_of (omega (arith, made_le c.args.self.now.set.now c.args.self.now.ranged))
+pub invariant_of-xs : goal.invariant_of-xs
+invariant_of-xs c = record { thousandths = c.args.self.now.ranged.fractions xs }
 
-pub overflow_mul-lost : goal.overflow_mul-lost
-overflow_mul-lost c = omega (arith, lost_le c.args.self.now.set.now c.args.self.now.ranged)
-
-pub overflow_cast-lost : goal.overflow_cast-lost
-overflow_cast-lost c = sfits_of (omega (arith, lost_le c.args.self.now.set.now c.args.self.now.ranged))
-
-pub others_of-d11-requires : goal.others_of-d11-requires
-others_of-d11-requires c = let f = c.args.self.now.ranged.fractions in (f xalg, f xi, f xi, nothing_small)
-
-pub others_of-d12-requires : goal.others_of-d12-requires
-others_of-d12-requires c = let f = c.args.self.now.ranged.fractions in (f xalg, f xi, f xi, nothing_small)
-
-pub others_of-d13-requires : goal.others_of-d13-requires
-others_of-d13-requires c = let f = c.args.self.now.ranged.fractions in (f xalg, f xi, f xi, nothing_small)
-
-pub others_of-d14-requires : goal.others_of-d14-requires
-others_of-d14-requires c = let f = c.args.self.now.ranged.fractions in (f xalg, f xs, f xi, nothing_small)
+pub invariant_of-xi : goal.invariant_of-xi
+invariant_of-xi c = record { thousandths = c.args.self.now.ranged.fractions xi }
 
 pub returns : goal.returns
 unfolding process_at processes_of

@@ -3,28 +3,18 @@
 use Rattle.std.proofs.Common.{refl}
 use Rattle.stoichiometry.specs.Substances.{ss, xh, xi}
 use Rattle.stoichiometry.specs.Rows.{processes_of, process_at}
-use Rattle.rows.proofs.Ranges.{nothing_small}
 use Rattle.rows.proofs.RowEntries.{same_two}
 use Rattle.rows.proofs.Storing.{figure_is, none_stored, one_more}
 use Rattle.rows.proofs.processes.RangedSet.heterotrophs.Goals as goal
 
-pub others_of-d1-requires : goal.others_of-d1-requires
-others_of-d1-requires c = let f = c.args.self.now.ranged.fractions in (f xh, f ss, f xi, nothing_small)
+pub invariant_of-xh : goal.invariant_of-xh
+invariant_of-xh c = record { thousandths = c.args.self.now.ranged.fractions xh }
 
-pub others_of-d2-requires : goal.others_of-d2-requires
-others_of-d2-requires c = let f = c.args.self.now.ranged.fractions in (f xh, f ss, f xi, nothing_small)
+pub invariant_of-ss : goal.invariant_of-ss
+invariant_of-ss c = record { thousandths = c.args.self.now.ranged.fractions ss }
 
-pub others_of-d3-requires : goal.others_of-d3-requires
-others_of-d3-requires c = let f = c.args.self.now.ranged.fractions in (f xh, f xi, f xi, nothing_small)
-
-pub others_of-d4-requires : goal.others_of-d4-requires
-others_of-d4-requires c = let f = c.args.self.now.ranged.fractions in (f xh, f ss, f xi, nothing_small)
-
-pub others_of-d5-requires : goal.others_of-d5-requires
-others_of-d5-requires c = let f = c.args.self.now.ranged.fractions in (f xh, f ss, f xi, nothing_small)
-
-pub others_of-d6-requires : goal.others_of-d6-requires
-others_of-d6-requires c = let f = c.args.self.now.ranged.fractions in (f xh, f xi, f xi, nothing_small)
+pub invariant_of-xi : goal.invariant_of-xi
+invariant_of-xi c = record { thousandths = c.args.self.now.ranged.fractions xi }
 
 pub returns : goal.returns
 unfolding process_at processes_of

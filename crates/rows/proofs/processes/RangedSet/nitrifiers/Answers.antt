@@ -5,36 +5,30 @@ use Rattle.numeric.proofs.Machine.{kept, kept_is, result_is}
 use Rattle.stoichiometry.specs.declared.Further.TheVariants.{Nh4ToNo2, No2ToNo3}
 use Rattle.stoichiometry.specs.Substances.{xn1, xn2, xi}
 use Rattle.stoichiometry.specs.Rows.{processes_of, process_at}
-use Rattle.rows.proofs.Ranges.{nothing_small}
 use Rattle.rows.proofs.RowEntries.{same_one, same_two}
 use Rattle.rows.proofs.Storing.{figure_is, none_stored, one_more}
 use Rattle.rows.proofs.processes.RangedSet.nitrifiers.Goals as goal
 
-pub excess_of-requires : goal.excess_of-requires
-excess_of-requires c = (c.args.self.now.ranged.xn1, (c.args.self.now.ranged.fractions xn1).nitrogen)
+pub invariant_of-xn1 : goal.invariant_of-xn1
+invariant_of-xn1 c = record { thousandths = c.args.self.now.ranged.fractions xn1 }
 
-pub excess_of-requires-2 : goal.excess_of-requires-2
-excess_of-requires-2 c = (c.args.self.now.ranged.xn2, (c.args.self.now.ranged.fractions xn2).nitrogen)
+pub invariant_of-xn2 : goal.invariant_of-xn2
+invariant_of-xn2 c = record { thousandths = c.args.self.now.ranged.fractions xn2 }
+
+pub invariant_of-xi : goal.invariant_of-xi
+invariant_of-xi c = record { thousandths = c.args.self.now.ranged.fractions xi }
 
 pub others_of-d7-requires : goal.others_of-d7-requires
 others_of-d7-requires c =
-    let f = c.args.self.now.ranged.fractions in
     let k7 = c.excess_of in
     let small : nat_abs (kept k7.result) ≤ 100000 = rw (kept_is _ k7.type_inv) k7.ensures.result_bound in
-    (f xn1, f xi, f xi, omega arith)
-
-pub others_of-d8-requires : goal.others_of-d8-requires
-others_of-d8-requires c = let f = c.args.self.now.ranged.fractions in (f xn1, f xi, f xi, nothing_small)
+    omega arith
 
 pub others_of-d9-requires : goal.others_of-d9-requires
 others_of-d9-requires c =
-    let f = c.args.self.now.ranged.fractions in
     let k9 = c.excess_of-2 in
     let small : nat_abs (kept k9.result) ≤ 100000 = rw (kept_is _ k9.type_inv) k9.ensures.result_bound in
-    (f xn2, f xi, f xi, omega arith)
-
-pub others_of-d10-requires : goal.others_of-d10-requires
-others_of-d10-requires c = let f = c.args.self.now.ranged.fractions in (f xn2, f xi, f xi, nothing_small)
+    omega arith
 
 pub returns : goal.returns
 unfolding process_at processes_of

@@ -1,21 +1,20 @@
 -- `RangedSet::rest` meets its contract: 15 to 17, each with the organic changes that it is called with; each row is stored
 -- after the one before. No assumptions.
-use Rattle.std.proofs.Common.{refl, rules}
+use Rattle.std.proofs.Common.{refl}
 use Rattle.stoichiometry.specs.Substances.{ss, xs, xi}
 use Rattle.stoichiometry.specs.Rows.{processes_of, process_at}
-use Rattle.rows.proofs.Ranges.{nothing_small}
 use Rattle.rows.proofs.RowEntries.{same_none, same_two}
 use Rattle.rows.proofs.Storing.{figure_is, none_stored, one_more}
 use Rattle.rows.proofs.processes.RangedSet.rest.Goals as goal
 
-pub others_of-d15-requires : goal.others_of-d15-requires
-others_of-d15-requires c = let f = c.args.self.now.ranged.fractions in (f xs, f ss, f xi, nothing_small)
+pub invariant_of-xs : goal.invariant_of-xs
+invariant_of-xs c = record { thousandths = c.args.self.now.ranged.fractions xs }
 
-pub others_of-d16-requires : goal.others_of-d16-requires
-others_of-d16-requires c = let f = c.args.self.now.ranged.fractions in (f xi, f xi, f xi, search rules)
+pub invariant_of-ss : goal.invariant_of-ss
+invariant_of-ss c = record { thousandths = c.args.self.now.ranged.fractions ss }
 
-pub others_of-d17-requires : goal.others_of-d17-requires
-others_of-d17-requires c = let f = c.args.self.now.ranged.fractions in (f xi, f xi, f xi, search rules)
+pub invariant_of-xi : goal.invariant_of-xi
+invariant_of-xi c = record { thousandths = c.args.self.now.ranged.fractions xi }
 
 pub returns : goal.returns
 unfolding process_at processes_of

@@ -3,4 +3,6 @@ use Rattle.step.proofs.RatingLaws.{size_some}
 use Rattle.step.proofs.rates.Rates.extent.Goals as goal
 
 pub nonzero_div-result : goal.nonzero_div-result
-nonzero_div-result c = size_some c.args.self.now c.args.at c.requires.0
+nonzero_div-result c =
+    let rates = c.args.self.now in
+    size_some _ _ _ _ rates.ready rates.sized c.args.at c.requires.0

@@ -1,20 +1,20 @@
--- `write_plain` meets its contract: blanks, then digits or a lone zero, with the mark. No assumptions.
-use Rattle.std.proofs.Common.{◌∙◌, arith, length}
-use Rattle.text.proofs.DigitLaws.{over-plain, zero_plain, none_plain}
+-- `write_plain` meets its contract: where there are fewer columns than digits, they are the last of all. No assumptions.
+use Rattle.std.proofs.Common.{ℕ, ◌≡◌, ◌+◌, ◌-◌, ap, ◌∙◌, arith, length, take, drop}
+use Rattle.std.proofs.lemmas.List.{take_all}
+use Rattle.text.specs.Decimals.{plain}
+use Rattle.text.proofs.DecimalLaws.{plain-length}
+use Rattle.text.proofs.DigitLaws.{last_plain}
 use Rattle.text.proofs.writing.Figure.write_plain.Goals as goal
 
-pub returns-then-self-gt0 : goal.returns-then-self-gt0
-returns-then-self-gt0 c =
-    c.write_columns.ensures
-    ∙ over-plain c.write_blanks.new.out (length c.args.out.now) c.args.self.mark c.args.self.n c.write_blanks.ensures c.if-self-gt0.true
-
-pub returns-in-Some : goal.returns-in-Some
-returns-in-Some c =
-    let (whole, long) = c.in-Some.ensures.cases in
-    zero_plain c.write_blanks.new.out (length c.args.out.now) c.args.self.mark c.args.self.n c.write_blanks.ensures _ _ _ whole long
-    (omega arith) c.write_mark.ensures
-
-pub returns-in_default : goal.returns-in_default
-returns-in_default c =
-    none_plain c.write_blanks.new.out (length c.args.out.now) c.args.self.mark c.args.self.n c.write_blanks.ensures
-    c.in_default.ensures.cases
+pub returns-then-width-lt-DIGITS_MOST : goal.returns-then-width-lt-DIGITS_MOST
+returns-then-width-lt-DIGITS_MOST c =
+    let w = length c.args.out.now in
+    let m = c.args.self.mark in
+    let n = c.args.self.n in
+    let all : 20 ≡ 20 - w + w = omega arith in
+    let long = plain-length w m n in
+    let last : drop (20 - w) c.write_whole.new.out ≡ plain w m n =
+    ap (drop (20 - w)) (c.write_whole.ensures ∙ ap (λ (i : ℕ). plain i m n) all) ∙ last_plain (20 - w) w m n in
+    c.copy_from_slice.ensures.after
+    ∙ ap (take (20 - (20 - w))) last
+    ∙ take_all (20 - (20 - w)) (plain w m n) (omega arith)

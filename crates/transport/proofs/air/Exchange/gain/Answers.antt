@@ -1,10 +1,10 @@
 -- `Exchange::gain` meets its contract: the bounds of the saturation, the level and the part show that each step fits 64
 -- bits, so that the machine's quotient is the definition's. No assumptions.
 use Rattle.std.proofs.Common.{◌≡◌, ℕ, ◌^◌, ◌≤◌, ◌<◌, [], ◌∷◌, refl, sym, ◌∙◌, arith, pos, nat_abs, ℤ, ◌-ℤ◌, ◌*ℤ◌, to_z}
+use Rattle.std.proofs.lemmas.Int.{fits_signed_from_abs}
 use lib.Signed.{quot_z}
 use mir.Facts.{to_z_pos, to_z-of_z}
 use mir.Syntax.{w64}
-use Rattle.numeric.proofs.Bounds.{fits_abs}
 use Rattle.numeric.proofs.Expression.{v, #, ◌⊖◌, ◌⊗◌}
 use Rattle.numeric.proofs.Fitting.{Bounded, ◌&◌, all, abs_under}
 use Rattle.numeric.proofs.Machine.{asked, kept, ran}
@@ -18,25 +18,19 @@ use Rattle.transport.proofs.AirLaws.{air-figures, exchanged_bound}
 use Rattle.transport.proofs.air.Exchange.gain.Goals as goal
 use Rattle.transport.proofs.air.Exchange.gain.Goals.{After-part}
 
-pub part-requires-clause-constant : goal.part-requires-clause-constant
-part-requires-clause-constant c = (air-figures _ _ _ c.requires.figures).constant
-
-pub part-requires-clause-seconds : goal.part-requires-clause-seconds
-part-requires-clause-seconds c = (air-figures _ _ _ c.requires.figures).time
-
 -- A number below 2 ^ 63 in a signed local.
 as_kept : (n : ℕ) → n < 2 ^ 63 → to_z w64 n ≡ kept (pos n)
-as_kept n h = to_z_pos w64 h ∙ sym (to_z-of_z {w = w64} (fits_abs (pos n) h))
+as_kept n h = to_z_pos w64 h ∙ sym (to_z-of_z {w = w64} (fits_signed_from_abs w64 (pos n) h))
 
 saturation-is : (c : After-part) → to_z w64 c.args.self.now.saturation ≡ kept (pos c.args.self.now.saturation)
-saturation-is c = as_kept _ (let most = (air-figures _ _ _ c.requires.figures).most in omega arith)
+saturation-is c = as_kept _ (let most = (air-figures _ _ _ c.args.self.now.in_bounds).most in omega arith)
 
 level-is : (c : After-part) → c.level-level.result ≡ level_of o2 c.args.amount
 unfolding level_of
 level-is c = c.level-level.ensures.answer ∙ rw (to_z-of_z c.ranges.amount) refl
 
 level-small : (c : After-part) → c.level-level.result ≤ most_level
-level-small c = rw (level-is c) (level_bound o2 c.args.amount c.requires.amount)
+level-small c = rw (level-is c) (level_bound o2 c.args.amount c.requires)
 
 level-kept : (c : After-part) → to_z w64 c.level-level.result ≡ kept (pos c.level-level.result)
 level-kept c = as_kept c.level-level.result (omega (arith, level-small c))
@@ -46,7 +40,7 @@ known : (c : After-part)
     → Bounded (c.part.result ∷ pos c.args.self.now.saturation ∷ pos c.level-level.result ∷ [])
     (833333333 ∷ most_saturation ∷ most_level ∷ [])
 known c =
-    let f = air-figures _ _ _ c.requires.figures in
+    let f = air-figures _ _ _ c.args.self.now.in_bounds in
     let part : nat_abs c.part.result ≤ 833333333 = rw c.part.ensures (exchanged_bound _ _ f.constant f.time) in
     part & f.most & level-small c & all
 

@@ -1,11 +1,12 @@
 -- `flow::Part::passed` meets its contract: the part of a size fits with either sign, since it is no larger.
 -- No assumptions.
 use Rattle.std.proofs.Common.{◌≡◌, [], ◌∷◌, ◌∙◌, refl, arith, ℕ, ◌^◌, ◌<◌, ◌≤◌, ℤ, pos, neg_ℤ, nat_abs, ◌-ℤ◌, to_z}
+use Rattle.std.proofs.lemmas.Int.{fits_signed_from_abs}
 use lib.IntN.{+ℤ_idl}
 use lib.Signed.{◌≤ℤ◌, ◌<ℤ◌}
 use mir.Facts.{to_z-of_z, to_z_pos, sfits_lit}
 use mir.Syntax.{w64}
-use Rattle.numeric.proofs.Bounds.{fits_abs, abs_neg}
+use Rattle.numeric.proofs.Bounds.{abs_neg}
 use Rattle.numeric.proofs.Comparison.{bits_lt, bits_nlt}
 use Rattle.numeric.proofs.Expression.{v, ⊝}
 use Rattle.numeric.proofs.Fitting.{Bounded, ◌&◌, all}
@@ -27,7 +28,7 @@ module _ (part n : ℕ) (amount : ℤ) (h : part ≤ 10000) (small : nat_abs amo
   negated : amount <ℤ pos 0 → kept (pos 0 -ℤ to_z w64 n) ≡ passing part amount
   negated below =
       let minus = neg_ℤ (pos n) in
-      let fits = fits_abs minus (omega (arith, abs_neg (pos n), part-fits)) in
+      let fits = fits_signed_from_abs w64 minus (omega (arith, abs_neg (pos n), part-fits)) in
       rw (to_z_pos w64 part-fits, +ℤ_idl minus, to_z-of_z {w = w64} fits, passing_below part amount below, e) refl
 
 pub returns-then-amount-lt0 : goal.returns-then-amount-lt0
