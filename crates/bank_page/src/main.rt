@@ -3,14 +3,14 @@
 // call that writes, and have to ask that it may be called, which no public call does.
 #![tactic(auto)]
 
-use anyhow::Result;
 use page::Page;
 use record_input::read_river;
+use std::io;
 
-fn main(rt: HostRuntime) -> Result<()> {
+fn main(rt: HostRuntime) -> io::Result<()> {
     let river = match read_river(&mut rt.reader())? {
         Ok(river) => river,
-        Err(refusal) => return Ok(rt.println(refusal.number())?),
+        Err(refusal) => return rt.println(refusal.number()),
     };
     let mut output = [0; Page::BYTES_MOST];
     page::write_page(river, &mut output)?;

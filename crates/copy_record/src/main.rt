@@ -1,14 +1,14 @@
 // Reads a record from standard input and writes it back; for any other input, its number and a line feed.
 #![tactic(auto)]
 
-use anyhow::Result;
 use record::Record;
 use record_input::read_river;
+use std::io;
 
-fn main(rt: HostRuntime) -> Result<()> {
+fn main(rt: HostRuntime) -> io::Result<()> {
     let river = match read_river(&mut rt.reader())? {
         Ok(river) => river,
-        Err(refusal) => return Ok(rt.println(refusal.number())?),
+        Err(refusal) => return rt.println(refusal.number()),
     };
     let mut output = [0; Record::BYTES_MOST];
     let mut work = [0; Record::BYTES_MOST];

@@ -7,7 +7,7 @@ use native.Mathlib.Omega.{arith}
 use native.Mathlib.Nat.{mul-le-mul}
 use lib.ListN.{get_or}
 use lib.IntN.{ℤ, pos, negsuc, neg_ℤ, nat_abs, ◌+ℤ◌, ◌-ℤ◌, ◌*ℤ◌}
-use lib.Signed.{◌≤ℤ◌}
+use lib.Signed.{mag, ◌≤ℤ◌}
 use Rattle.numeric.proofs.Difference.{up, dn}
 use Rattle.numeric.proofs.Expression.{v, #, ◌⊕◌, ⊝, at_most, at_most_of, rep}
 use Rattle.std.proofs.lemmas.Int.{unsigned_abs-mul}
@@ -25,6 +25,10 @@ parts_mono x y h = by_sign x y (at_most_of (x ∷ y ∷ []) (v 0) (v 1) h)
     by_sign (pos a) (negsuc b) k = (omega arith, omega arith)
     by_sign (negsuc a) (pos b) k = (omega arith, omega arith)
     by_sign (negsuc a) (negsuc b) k = (omega arith, omega arith)
+
+pub mag_abs : (z : ℤ) → mag z ≤ nat_abs z
+mag_abs (pos n) = omega arith
+mag_abs (negsuc n) = omega arith
 
 pub abs_neg : (z : ℤ) → nat_abs (neg_ℤ z) ≡ nat_abs z
 abs_neg (pos zero) = refl

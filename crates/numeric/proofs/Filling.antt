@@ -124,6 +124,15 @@ module _ {A : Type 0} where
   then_none n f z =
       record { filled = fill_none n f (replicate n z) (length-replicate n z); rest = λ j h. replicate_at n j z }
 
+  pub then_run : (n b m : ℕ) (f g : ℕ → A) (z : A) (l next : List A) → FilledThen n b f z l → b + m ≤ n
+      → ((s : ℕ) → s < m → g s ≡ f (b + s)) → next ≡ run l b m g → FilledThen n (b + m) f z next
+  then_run n b m f g z l next i h e q =
+      rw q
+      (record {
+        filled = fill_run n b m f g l i.filled h e;
+        rest = λ j k. run_beyond l b m g j z k ∙ i.rest j (omega arith);
+      })
+
   pub then_done : (n b : ℕ) (f : ℕ → A) (z : A) (l : List A) → FilledThen n b f z l
       → ((j : ℕ) → b ≤ j → j < n → f j ≡ z) → l ≡ tab n f
   then_done n b f z l i e = fill_rest n b f l z i.filled (λ j h k. i.rest j h ∙ sym (e j h k))

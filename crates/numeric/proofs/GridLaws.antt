@@ -1,6 +1,6 @@
 -- Laws of `grid`: the element at a place of one of the first rows and beyond them, a fact of every element, equal grids,
--- a list that is one; last, `RowsMade`, the invariant of a loop that makes row after row: joined, they are a grid. No
--- assumptions.
+-- a list that is one; `RowsFilled`, the invariant of a loop that stores row after row; last, `RowsMade`, that of a loop that
+-- makes row after row: joined, they are a grid. No assumptions.
 use Prim.Native.Nat.{ℕ, zero, suc, ◌+◌, ◌*◌, ◌/◌, ◌%◌, ◌≤◌, ◌<◌}
 use mathlib.Core.Bool.{cond}
 use mathlib.Core.List.{List, [], ◌∷◌, ◌++◌, append_assoc, append-nil}
@@ -15,9 +15,9 @@ use lib.ListN.{length, get_or, set, replicate, length-replicate}
 use lib.Seq.{get_or-set_other}
 use Rattle.std.specs.List.{flat_map}
 use Rattle.std.proofs.lemmas.Grind.{flat_map-append}
-use Rattle.numeric.specs.Table.{tab, grid, grid_at}
+use Rattle.numeric.specs.Table.{tab, run, grid, grid_at}
 use Rattle.numeric.proofs.CheckLaws.{row_beyond}
-use Rattle.numeric.proofs.Filling.{fill_more, FilledThen, then_none, then_done, replicate_at}
+use Rattle.numeric.proofs.Filling.{fill_more, FilledThen, then_none, then_run, then_done, replicate_at}
 use Rattle.numeric.proofs.TableLaws.{tab-length, get_or-tab, tab_eq, tab_of_list}
 
 module _ {A : Type 0} (w n : ℕ) (z : A) (f : ℕ → ℕ → A) where
@@ -69,6 +69,29 @@ module _ {A : Type 0} (m w n : ℕ) (z : A) where
       at k h (no g) =
           let past : n ≤ k / w = omega arith in
           rw (le-ltb (k / w) n past) (beyond k ((le-div_iff_mul-le some).0 past) h)
+
+  -- The first c rows of the list are those of a grid of n rows, and z follows.
+  pub record RowsFilled (f : ℕ → ℕ → A) (c : ℕ) (l : List A) : Type 0 where
+    pub filled : FilledThen (m * w) (c * w) (grid_at w n z f) z l
+
+  pub rows_none : (f : ℕ → ℕ → A) → RowsFilled f 0 (replicate (m * w) z)
+  rows_none f = record { filled = rw zero-mul (then_none (m * w) (grid_at w n z f) z) }
+
+  -- One row more.
+  pub rows_next : (f : ℕ → ℕ → A) (c : ℕ) (l next : List A) (g : ℕ → A) → RowsFilled f c l → c < n → n ≤ m
+      → ((s : ℕ) → s < w → g s ≡ f c s) → next ≡ run l (c * w) w g → RowsFilled f (c + 1) next
+  rows_next f c l next g i h k e q =
+      let there : (c + 1) * w ≤ m * w = mul-le-mul_right w (omega arith) in
+      let more : c * w + w ≡ (c + 1) * w = omega arith in
+      let filled =
+      then_run (m * w) (c * w) w (grid_at w n z f) g z l next i.filled (omega arith)
+      (λ s j. e s j ∙ sym (grid-place w n z f c s h j)) q in
+      record { filled = rw more at filled }
+
+  pub rows_done : (f : ℕ → ℕ → A) (c : ℕ) (l : List A) → 0 < w → c ≡ n → RowsFilled f c l → l ≡ grid m w n z f
+  unfolding grid
+  rows_done f c l some e i =
+      then_done (m * w) (c * w) (grid_at w n z f) z l i.filled (λ k h j. grid_beyond w n z f k some (rw e at h))
 
 module _ {A : Type 0} where
   -- A table of n + m elements is two.

@@ -1,10 +1,11 @@
 -- Laws of the lines of a record as they are read: `same_bytes` is equality; a line is read as its value (`line_value_lem`)
 -- and what is read as a value is the line of it (`value_line`). Then a line as the code reads it: what stands before the
 -- value, the line feed, the value. No assumptions.
-use Prim.Native.Nat.{ℕ, ◌≤◌}
+use Prim.Native.Nat.{ℕ, ◌+◌, ◌≤◌}
 use mathlib.Core.Bool.{Bool, true, false, ◌&&◌, cond, and_assoc, and-true, true≢false}
 use mathlib.Core.List.{List, [], ◌∷◌, ◌++◌, append_assoc}
 use mathlib.Core.Path.{◌≡◌, refl, sym, ap, ◌∙◌}
+use native.Mathlib.Nat.{add-zero}
 use native.Mathlib.Omega.{arith}
 use lib.Dec.{eqb, ltb}
 use lib.IntN.{ℤ, pos, neg_ℤ, nat_abs}
@@ -29,7 +30,7 @@ use Rattle.stoichiometry.specs.Substances.{substances, most_net}
 use Rattle.river.specs.Rivers.{most_carry}
 
 -- `same_bytes` decides that two texts are equal.
-same_bytes-Decides : (xs ys : List ℕ) → Decides (same_bytes xs ys) (xs ≡ ys)
+pub same_bytes-Decides : (xs ys : List ℕ) → Decides (same_bytes xs ys) (xs ≡ ys)
 unfolding same_bytes
 same_bytes-Decides =
     compares_Decides same_bytes
@@ -85,15 +86,16 @@ value_line l cell k lowest highest = go (parse lowest highest (part 6 20 l)) (pa
         at false same e = absurd (true≢false (sym e))
 
 -- What stands before a value of a text, byte by byte: the columns of the cell, a blank, those of the line, a blank.
-front_read : (l : List ℕ) (cell k : ℕ) → 6 ≤ length l
-    → same_bytes (part 0 6 l) (front cell k)
-    ≡ (eqb (get_or l 0 0) (get_or (plain 2 32 cell) 0 0)
-    && (eqb (get_or l 1 0) (get_or (plain 2 32 cell) 1 0)
-    && (eqb (get_or l 2 0) 32
-    && (eqb (get_or l 3 0) (get_or (plain 2 32 k) 0 0)
-    && (eqb (get_or l 4 0) (get_or (plain 2 32 k) 1 0) && eqb (get_or l 5 0) 32)))))
+pub front_read : (t : List ℕ) (at cell k : ℕ) → at + 6 ≤ length t
+    → same_bytes (part at 6 t) (front cell k)
+    ≡ (eqb (get_or t at 0) (get_or (plain 2 32 cell) 0 0)
+    && (eqb (get_or t (at + 1) 0) (get_or (plain 2 32 cell) 1 0)
+    && (eqb (get_or t (at + 2) 0) 32
+    && (eqb (get_or t (at + 3) 0) (get_or (plain 2 32 k) 0 0)
+    && (eqb (get_or t (at + 4) 0) (get_or (plain 2 32 k) 1 0) && eqb (get_or t (at + 5) 0) 32)))))
 unfolding same_bytes tab front plain columns
-front_read l cell k h = rw (part-tab l 0 6 h) (rw and-true)
+front_read t at cell k h =
+    rw (part-tab t at 6 h) (rw (add-zero, and-true))
 
 -- The first six bytes are compared with the columns of the cell and of the line.
 pub front_compared : (l a b : List ℕ) (cell k : ℕ) → 6 ≤ length l → a ≡ plain 2 32 cell → b ≡ plain 2 32 k
@@ -105,7 +107,7 @@ pub front_compared : (l a b : List ℕ) (cell k : ℕ) → 6 ≤ length l → a 
     && eqb (get_or l 5 0) 32)
     ≡ same_bytes (part 0 6 l) (front cell k)
 front_compared l a b cell k h ea eb =
-    simp and_assoc (rw (ea, eb) (sym (front_read l cell k h)))
+    simp and_assoc (rw (ea, eb) (sym (front_read l 0 cell k h)))
 
 -- The limits of a line's value as the machine keeps them.
 pub limits_kept : (k : ℕ) → (kept (lowest_on k) ≡ lowest_on k) × (kept (highest_on k) ≡ highest_on k)

@@ -114,9 +114,12 @@ module _ (t : List ℕ) where
     unfolding cell_lines
     lines_accepted e = rw e refl
 
-    pub lines_refused : (refusal : Refusal) → number refusal ≡ cell_number t cell → cell_lines t cell ≡ []
+    pub lines_none : (cell_number t cell ≡ 0 → ⊥) → cell_lines t cell ≡ []
     unfolding cell_lines
-    lines_refused refusal e = rw (ne_eqb (cell_number t cell) 0 (λ z. number-positive refusal (e ∙ z))) refl
+    lines_none h = rw (ne_eqb (cell_number t cell) 0 h) refl
+
+    pub lines_refused : (refusal : Refusal) → number refusal ≡ cell_number t cell → cell_lines t cell ≡ []
+    lines_refused refusal e = lines_none (λ z. number-positive refusal (e ∙ z))
 
     pub cell_within : cell_number t cell ≡ 0 → (1 ≤ cell) × ((cell - 1) * cell_bytes + cell_bytes ≤ length t)
     cell_within z = go (is_record t) (in_range 1 (cells_in t) cell) refl refl

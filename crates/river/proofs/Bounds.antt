@@ -4,18 +4,20 @@
 use Prim.Native.Nat.{ℕ, ◌<◌, ◌≤◌}
 use mathlib.Core.Bool.{Bool, true, false, ◌&&◌, ◌||◌, cond}
 use mathlib.Core.List.{map}
-use mathlib.Core.Path.{◌≡◌, refl, ap₂, ◌∙◌}
+use mathlib.Core.Path.{◌≡◌, refl, sym, ap₂, ◌∙◌}
 use native.Mathlib.Omega.{arith}
 use borrow.Author.Tests.{leb-true}
-use lib.Dec.{leb}
+use lib.Dec.{leb, eqb}
 use lib.IntN.{ℤ, pos, neg_ℤ, nat_abs}
 use lib.ListN.{get_or-eq_default}
 use lib.Signed.{le_z, ◌≤ℤ◌}
+use mir.Syntax.{w64}
+use mir.Val.{SFits, of_z}
 use Rattle.numeric.specs.Check.{every}
 use Rattle.numeric.specs.Table.{tab}
 use Rattle.numeric.proofs.Bounds.{abs_between}
 use Rattle.numeric.proofs.CheckLaws.{and_left, and_right, every_at}
-use Rattle.numeric.proofs.Comparison.{le_z_true, le_le_z}
+use Rattle.numeric.proofs.Comparison.{le_z_true, le_le_z, zero_bits, zero_alone}
 use Rattle.numeric.proofs.TableLaws.{get_or-tab}
 use Rattle.stoichiometry.specs.Substances.{substances, order, most_organic, most_grains, most_net}
 use Rattle.river.specs.Inner.Runs.{organic_at, net_at}
@@ -35,6 +37,11 @@ lowest_kind s h = get_or-tab substances (λ k. lowest_of (organic_at k) (net_at 
 pub highest_kind : (s : ℕ) → s < substances → highest_at s ≡ highest_of (organic_at s) (net_at s)
 unfolding highest_at tab
 highest_kind s h = get_or-tab substances (λ k. highest_of (organic_at k) (net_at k)) s (pos 0) h
+
+-- The least by whether it is H+ or H2O alone, since neither is an organic.
+pub lowest_net : (s : ℕ) → s < substances → lowest_at s ≡ cond (net_at s) (neg_ℤ (pos most_net)) (pos 0)
+unfolding lowest_at tab
+lowest_net s h = get_or-tab substances (λ k. cond (net_at k) (neg_ℤ (pos most_net)) (pos 0)) s (pos 0) h
 
 -- From place 18 on both bounds are 0.
 pub lowest_none : (s : ℕ) → substances ≤ s → lowest_at s ≡ pos 0
@@ -100,3 +107,10 @@ module _ (s : ℕ) (x : ℤ) (h : s < substances) where
   -- Of an organic: at most 10^9.
   pub fits-organic : organic_at s ≡ true → amount_fits s x ≡ true → nat_abs x ≤ most_organic
   fits-organic o e = rw (highest_kind s h, o) at (fits_size e)
+
+-- From place 18 on both bounds are 0, so that the machine's test for 0 is that of the bounds.
+pub none_tested : (s : ℕ) (z : ℤ) → SFits w64 z → substances ≤ s → eqb (of_z w64 z) 0 ≡ amount_fits s z
+unfolding amount_fits
+none_tested s z f h =
+    zero_bits z f ∙ zero_alone z
+    ∙ sym (ap₂ (λ (a b : ℤ). le_z a z && le_z z b) (lowest_none s h) (highest_none s h))

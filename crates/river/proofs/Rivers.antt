@@ -25,7 +25,7 @@ use mir.Syntax.{w64}
 use mir.Val.{SFits}
 use Rattle.numeric.specs.Check.{every}
 use Rattle.numeric.proofs.Bounds.{abs_zero}
-use Rattle.numeric.proofs.CheckLaws.{and_left, and_right, leb-within, every-Decides, every_eq, every-rows}
+use Rattle.numeric.proofs.CheckLaws.{and_left, and_right, leb-within, every-Decides, every_eq, every-rows, row_in}
 use Rattle.numeric.proofs.CheckLaws.{split_at, split_all}
 use Rattle.numeric.proofs.Machine.{kept}
 use Rattle.stoichiometry.specs.Substances.{substances, most_net}
@@ -184,6 +184,13 @@ module _ (n : ℕ) (amounts : List ℤ) where
   amounts_from h =
       split_all substances n most_cells inside empty (lit< tt)
       (λ k l. ((h k l).0, λ i. eq-eqb _ 0 (ap nat_abs ((h k l).1 i))))
+
+-- A number of cells above 8 is taken for 8.
+pub amounts_beyond : (n : ℕ) (amounts : List ℤ) → most_cells ≤ n → amounts_fit n amounts ≡ amounts_fit most_cells amounts
+unfolding amounts_fit
+amounts_beyond n amounts h =
+    every_eq (most_cells * substances) _ _
+    (λ k l. rw (row_in substances n k (lit< tt) (omega arith), row_in substances most_cells k (lit< tt) l))
 
 -- Carries, the same way.
 module _ (n : ℕ) (carries : List ℕ) where

@@ -14,19 +14,18 @@ mod sets;
 mod turns;
 
 use crate::order::{Order, UnknownKind};
-use anyhow::Result;
+use std::io;
 use streams::read_full;
 
 // The most bytes of standard input that are read.
 const READ_MOST: usize = 4096;
 
-fn main(rt: HostRuntime) -> Result<()> {
+fn main(rt: HostRuntime) -> io::Result<()> {
     let mut text = [0; READ_MOST];
     let n = read_full(&mut rt.reader(), &mut text)?;
     let sum = match Order::try_from(&text[..n]) {
         Ok(order) => calls::checksum_of(order)?,
         Err(UnknownKind) => 0,
     };
-    println!(rt; "{sum}")?;
-    Ok(())
+    println!(rt; "{sum}")
 }

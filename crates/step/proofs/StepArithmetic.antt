@@ -44,7 +44,7 @@ module _ (whole entries : List ℤ) (batches : BatchesFit whole) (rows : Entries
 
   module _ (start : ℤ) where
     -- An amount with what some processes add is far below 2 ^ 63.
-    total_bound : (p : ℕ) → nat_abs start ≤ most_net → p ≤ processes
+    pub total_bound : (p : ℕ) → nat_abs start ≤ most_net → p ≤ processes
         → nat_abs (start +ℤ sum p added) ≤ most_net + processes * (most_batches * most_entry)
     total_bound p b k =
         let term : (q : ℕ) → q < p → nat_abs (added q) ≤ most_batches * most_entry =

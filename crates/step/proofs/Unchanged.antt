@@ -26,7 +26,7 @@ added_none whole entries s p e l h none =
     ∙ *ℤ-zero (get_or whole p (pos 0))
 
 -- A digit of a number is the last one of the number shifted by its place.
-digit_shifted : (n p : ℕ) → digit n p ≡ eqb (n / 2 ^ p % 2) 1
+pub digit_shifted : (n p : ℕ) → digit n p ≡ eqb (n / 2 ^ p % 2) 1
 unfolding digit
 digit_shifted n zero = ap (λ (m : ℕ). eqb (m % 2) 1) (sym (div-one n))
 digit_shifted n (suc p) =

@@ -1,9 +1,11 @@
 // What a call refuses with.
 ghost use Rattle.std.specs.Prelude.{◌≡◌, Some};
+ghost use Rattle.std.specs.IoError.{error_kind};
+ghost use Rattle.std.specs.declared.io.ErrorKind.TheVariants.{InvalidInput};
 ghost use Rattle.stoichiometry.specs.Refusals.{message, number, number_of};
 
 use std::error::Error;
-use std::fmt;
+use std::{fmt, io};
 
 // A refusal. Its number is that of the documents, in checking order from 1 on.
 #[derive(Clone, Copy, Debug, PartialEq, Eq)]
@@ -43,11 +45,12 @@ impl Refusal {
     }
 }
 
-impl fmt::Display for Refusal {
-    ghost output = { λ refusal. Some (message refusal) };
-
-    fn fmt<W: fmt::Write>(&self, f: &mut fmt::Formatter<W>) -> fmt::Result {
-        f.write_str(match self {
+impl Refusal {
+    // What it says.
+    fn message(self) -> &'static str
+        ensures { result.now ≡ message self }
+    {
+        match self {
             Refusal::Fractions => "the fractions of some organic do not add to 1,000",
             Refusal::Figures => "a figure of the set is outside its range",
             Refusal::Rows => "a process does not consume oxygen, or takes up what it must not",
@@ -61,11 +64,28 @@ impl fmt::Display for Refusal {
             Refusal::Space => "the output or the work area is too short",
             Refusal::Text => "the text is not exactly a record",
             Refusal::Page => "the output is too short for the page",
-        })
+        }
+    }
+}
+
+impl fmt::Display for Refusal {
+    ghost output = { λ refusal. Some (message refusal) };
+
+    fn fmt<W: fmt::Write>(&self, f: &mut fmt::Formatter<W>) -> fmt::Result {
+        f.write_str(self.message())
     }
 }
 
 impl Error for Refusal {}
+
+// So that a program whose `main` answers `io::Result` hands a refusal on by `?`.
+impl From<Refusal> for io::Error {
+    ghost from_gives = { λ _ e. error_kind e ≡ InvalidInput };
+
+    fn from(refusal: Refusal) -> io::Error {
+        io::Error::new(io::ErrorKind::InvalidInput, refusal.message())
+    }
+}
 
 // The number of an answer, 0 where the call refused nothing.
 pub fn number_of<T>(answer: &Result<T, Refusal>) -> u32

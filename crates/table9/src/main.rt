@@ -7,16 +7,15 @@ mod agreement;
 mod set;
 mod table;
 
-use anyhow::Result;
+use std::io;
 use streams::read_full;
 
 // The most bytes of the table that are read.
 const MOST: usize = 4096;
 
-fn main(rt: HostRuntime) -> Result<()> {
+fn main(rt: HostRuntime) -> io::Result<()> {
     let mut text = [0; MOST];
     let n = read_full(&mut rt.reader(), &mut text)?;
     let rows = set::published_rows()?;
-    table::compare(&rt, &text[..n], &rows)?;
-    Ok(())
+    table::compare(&rt, &text[..n], &rows)
 }

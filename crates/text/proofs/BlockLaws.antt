@@ -1,5 +1,5 @@
 -- Laws of `blocks`: length, equal blocks, two runs in one, rows of blocks as one run; for blocks of one width, of the
--- parts of a run and of a loop that writes them; a part by its bytes, and as a chunk. No assumptions.
+-- parts of a run and of a loop that writes them; and a part by its bytes. No assumptions.
 use Prim.Native.Nat.{ℕ, zero, suc, ◌+◌, ◌*◌, ◌/◌, ◌%◌, ◌≤◌, ◌<◌}
 use mathlib.Core.List.{List, ◌++◌, append_assoc, append-nil}
 use mathlib.Core.Logic.{⊎_elim}
@@ -89,6 +89,15 @@ module _ (w : ℕ) (f : ℕ → List ℕ) (each : (i : ℕ) → length (f i) ≡
       rw (add-one k)
       (mid_written l ys (f k) (k * w) len w (each k) long e₁
       ∙ grow l₀ l 0 (k * w) (k * w) (blocks k f) (f k) (blocks-length w k f each) (omega arith) (omega arith) e)
+
+  -- The same step of a run that begins at any place.
+  pub blocks_turn : (l l₁ : List ℕ) (at m k : ℕ) → m ≡ at + k * w → at + k * w + w ≤ length l₀
+      → l ≡ put l₀ at (blocks k f)
+      → l₁ ≡ put l m (f k)
+      → l₁ ≡ put l₀ at (blocks (k + 1) f)
+  unfolding blocks
+  blocks_turn l l₁ at m k em h e e₁ =
+      rw (add-one k) (e₁ ∙ grow l₀ l at (k * w) m (blocks k f) (f k) (blocks-length w k f each) em (omega arith) e)
 
   pub all_blocks : (l : List ℕ) (n : ℕ) → length l₀ ≡ n * w → l ≡ put l₀ 0 (blocks n f) → l ≡ blocks n f
   all_blocks l n long e = e ∙ put_all l₀ (blocks n f) (blocks-length w n f each ∙ sym long)

@@ -1,5 +1,5 @@
--- The digits of a number as std writes them, behind blanks and a mark, are the number in columns; and the last of these
--- columns are the number in fewer. No assumptions.
+-- The only digit of a number behind the columns that are left; the digits of a number as std writes them, behind blanks and
+-- a mark, are the number in columns; and the last of these columns are the number in fewer. No assumptions.
 use Prim.Native.Nat.{ℕ, zero, suc, ◌+◌, ◌-◌, ◌/◌, ◌%◌, ◌^◌, ◌≤◌, ◌<◌}
 use mathlib.Core.List.{List, [], ◌∷◌, ◌++◌, append_assoc, append-nil}
 use mathlib.Core.Logic.{⊎_elim}
@@ -13,9 +13,20 @@ use Rattle.std.proofs.lemmas.Bool.{cases_lt}
 use Rattle.std.proofs.lemmas.Fmt.{decimal_by_steps, decimal_digit, decimal_step}
 use Rattle.text.specs.Writes.{put}
 use Rattle.text.proofs.WriteLaws.{set-put}
-use Rattle.text.proofs.DecimalLaws.{columns-length, plain-length, glyph_zero, glyph-digit}
+use Rattle.text.proofs.DecimalLaws.{columns-length, plain-length, glyph_zero, glyph-digit, next_mark-digit, columns_turn}
 use Rattle.std.proofs.lemmas.List.{drop_all, drop-append-le, take-take, take-replicate, length-replicate, replicate-append-replicate}
 use Rattle.text.specs.Decimals.{glyph, next_mark, columns, plain}
+
+-- The only digit of a number.
+pub digit_turn : (l : List ℕ) (at i m n : ℕ) → 0 < i → at + i ≤ length l → 0 < n → n < 10
+    → put (set l (at + (i - 1)) (48 + n)) at (columns (i - 1) m 0) ≡ put l at (columns i m n)
+digit_turn l at i m n some room digit one =
+    let none : 0 ≡ n / 10 = omega arith in
+    let ones : 48 + n ≡ 48 + n % 10 = omega arith in
+    let not_zero : n ≡ 0 → ⊥ = λ e. omega arith in
+    ap (λ (r : ℕ). put (set l (at + (i - 1)) (48 + n)) at (columns (i - 1) m r)) none
+    ∙ columns_turn l at i m n (48 + n) m some room
+    (ones ∙ sym (glyph-digit n m not_zero)) (sym (next_mark-digit n m not_zero))
 
 -- Blanks before a blank.
 blanks : (i : ℕ) → columns i 32 0 ≡ replicate i 32

@@ -1,16 +1,19 @@
--- Laws of `put`: writes one behind the other are one write, stores are a write, a write over all of a text, over a part
--- of one and over its beginning. Then of `put_within` and `copied`. Sequences of writes go by `grow` and `store`. No assumptions.
+-- Laws of `put`: a byte that was written, writes one behind the other are one write, stores are a write, a write over a
+-- write, over all of a text, over a part of one and over its beginning. Then of `put_within` and `copied`. Sequences of
+-- writes go by `grow` and `store`. No assumptions.
 use Prim.Native.Nat.{ℕ, ◌+◌, ◌≤◌, ◌<◌}
 use mathlib.Core.Bool.{false, ◌&&◌}
 use mathlib.Core.List.{List, [], ◌∷◌, ◌++◌, append_assoc, append-nil}
-use mathlib.Core.Path.{◌≡◌, refl, ap, ◌∙◌}
+use mathlib.Core.Path.{◌≡◌, refl, sym, ap, ◌∙◌}
 use native.Mathlib.Nat.{zero-add, add-zero, add_assoc}
 use native.Mathlib.Omega.{arith}
 use borrow.Author.Tests.{le-leb, lt-leb}
 use borrow.Rule.Slice.PartMut.{put_mid}
 use lib.Dec.{leb}
-use lib.ListN.{length, take, drop, set, length-append, length-take, length-drop, take-append-drop}
-use lib.Seq.{sets, sets-eq, take_at, drop-drop, drop-length, drop-append-add}
+use lib.ListN.{length, take, drop, set, get_or, length-append, length-take, length-drop, take-append-drop}
+use lib.ListN.{get_or-append}
+use lib.Seq.{sets, sets-eq, take-add, take_at, drop_at, drop-drop, drop-length, drop-append-add}
+use lib.Seq.{length-take-le, get_or-append-add}
 use Rattle.text.specs.Writes.{put, put_within, copied}
 
 pub put-none : (l : List ℕ) (at : ℕ) → put l at [] ≡ l
@@ -20,6 +23,15 @@ put-none l at = rw (add-zero at) (take-append-drop at l)
 pub put-length : (l : List ℕ) (at : ℕ) (xs : List ℕ) → at + length xs ≤ length l → length (put l at xs) ≡ length l
 unfolding put
 put-length l at xs h = simp (length-append, length-take, length-drop) (omega arith)
+
+-- A byte that was written.
+pub put_at : (l : List ℕ) (at : ℕ) (xs : List ℕ) (j : ℕ) → at + length xs ≤ length l → j < length xs
+    → get_or (put l at xs) (at + j) 0 ≡ get_or xs j 0
+unfolding put
+put_at l at xs j h k =
+    ap (λ (n : ℕ). get_or (put l at xs) (n + j) 0) (sym (length-take-le at l (omega arith)))
+    ∙ get_or-append-add (take at l) (xs ++ drop (at + length xs) l) j 0
+    ∙ get_or-append xs (drop (at + length xs) l) 0 j k
 
 -- A write over all of a text.
 pub put_all : (l xs : List ℕ) → length xs ≡ length l → put l 0 xs ≡ xs
@@ -40,6 +52,14 @@ behind : (a b xs : List ℕ) (k : ℕ) → length a ≡ k → put (a ++ b) k xs 
 unfolding put
 behind a b xs k e = rw (take_at a b k e, ← e, drop-append-add)
 
+-- Of two writes to one place, of one length, the second stays.
+pub put_over : (l : List ℕ) (at : ℕ) (xs ys : List ℕ) → at + length xs ≤ length l → length ys ≡ length xs
+    → put (put l at xs) at ys ≡ put l at ys
+unfolding put
+put_over l at xs ys h e =
+    behind (take at l) (xs ++ drop (at + length xs) l) ys at (length-take-le at l (omega arith))
+    ∙ rw (e, drop_at xs (drop (at + length xs) l) (length xs) refl)
+
 -- Two writes are one: the second behind the first, with the length of the first as a number.
 pub grow : (l l₁ : List ℕ) (at n m : ℕ) (xs ys : List ℕ) → length xs ≡ n → m ≡ at + n → at + n ≤ length l
     → l₁ ≡ put l at xs
@@ -50,6 +70,18 @@ grow l l₁ at n m xs ys e em h el =
     rw (el, ← append_assoc (take at l) xs (drop (at + length xs) l))
     (behind (take at l ++ xs) (drop (at + length xs) l) ys m long
     ∙ simp (append_assoc, drop-drop, length-append, add_assoc))
+
+-- And the second before the first, for a loop that goes down.
+pub put_before : (l : List ℕ) (at k : ℕ) (xs ys : List ℕ) → k ≡ at + length xs → k + length ys ≤ length l
+    → put (put l k ys) at xs ≡ put l at (xs ++ ys)
+unfolding put
+put_before l at k xs ys e h =
+    let mid = take (length xs) (drop at l) in
+    let rest = ys ++ drop (at + length xs + length ys) l in
+    let long : length mid ≡ length xs = simp (length-take, length-drop) (omega arith) in
+    rw (e, take-add at (length xs) l, append_assoc (take at l) mid rest)
+    (behind (take at l) (mid ++ rest) xs at (length-take-le at l (omega arith))
+    ∙ rw (drop_at mid rest (length xs) long) (simp (append_assoc, length-append, add_assoc)))
 
 -- Stores side by side are a write; and one store.
 pub sets_put : (l : List ℕ) (at : ℕ) (xs : List ℕ) → at + length xs ≤ length l → sets l at xs ≡ put l at xs

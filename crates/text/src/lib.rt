@@ -44,11 +44,14 @@ pub fn two_columns(n: u32) -> [u8; 2]
     columns
 }
 
-// n in two columns from `at` on, where both are there; its mark is a blank. Public, and kept as `write_decimal`.
+// n in two columns from `at` on, where both are there. Public, and kept as `write_decimal`, by which it would take twice as
+// long.
 pub fn write_two(out: &mut [u8], at: usize, n: u32)
     ensures out { out.new ≡ put_within out.old at (plain 2 32 n) }
 {
-    write_decimal(out, at, 2, i64::from(n));
+    if at <= out.len() && 2 <= out.len() - at {
+        out[at..at + 2].copy_from_slice(&two_columns(n));
+    }
 }
 
 // The first `count` bytes of `to` become those of `from`, where both have as many. Public, and kept as `write_decimal`.

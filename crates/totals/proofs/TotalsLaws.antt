@@ -13,8 +13,9 @@ use lib.ListN.{length, get_or}
 use Rattle.numeric.specs.Check.{all_of, ◌when◌, first_holding}
 use Rattle.numeric.specs.Sum.{sum}
 use Rattle.numeric.proofs.Bounds.{abs_at, abs_mul_le}
-use Rattle.numeric.proofs.CheckLaws.{all_of_at, first_append}
+use Rattle.numeric.proofs.CheckLaws.{all_of_at, abs_all_at, first_append}
 use Rattle.numeric.proofs.SumLaws.{sum-none, sum_more, sum_eq, added, sum-within, added_le}
+use Rattle.numeric.proofs.TableLaws.{AtMost, done, ◌also◌, at_most_at}
 use Rattle.stoichiometry.specs.declared.Fractions.{Fractions}
 use Rattle.stoichiometry.specs.declared.Set.{Set}
 use Rattle.stoichiometry.specs.Substances.{Substance, organic, nh4, no2, no3, hpo4, o2, hco3, h_plus, xp, h2o, n2}
@@ -67,6 +68,25 @@ total_from f charge = refl
 
 same_totals : (f g : Total → ℤ) → ((t : Total) → f t ≡ g t) → totals_from f ≡ totals_from g
 same_totals f g same = λ i. totals_from (λ t. same t i)
+
+-- Grains of an element in a thousandth of a µg of it, and the fractions, both by the place of the total.
+abbrev pub element_grains : List ℤ
+element_grains = pos 26040 ∷ pos 312480 ∷ pos 19530 ∷ pos 22320 ∷ pos 10080 ∷ pos 0 ∷ []
+
+abbrev pub fraction_list : Fractions → List ℕ
+fraction_list f = f.carbon ∷ f.hydrogen ∷ f.oxygen ∷ f.nitrogen ∷ f.phosphorus ∷ 0 ∷ []
+
+pub grains_le : (t : ℕ) → t < 6 → nat_abs (get_or element_grains t (pos 0)) ≤ 312480
+unfolding all_of
+grains_le t h = abs_all_at 312480 element_grains t refl h
+
+-- Fractions of at most m each.
+pub fraction_le : (f : Fractions) (m : ℕ) → f.carbon ≤ m → f.hydrogen ≤ m → f.oxygen ≤ m → f.nitrogen ≤ m
+    → f.phosphorus ≤ m → (t : ℕ) → get_or (fraction_list f) t 0 ≤ m
+fraction_le f m c h o n p t =
+    let none : 0 ≤ m = omega arith in
+    let small : AtMost (λ x. x) m (fraction_list f) = c also h also o also n also p also none also done in
+    at_most_at small 0 none t
 
 -- One µg of an organic holds at most 1,000 thousandths of an element.
 organic-light : (f : Fractions) → adds_up f ≡ true → (t : Total)

@@ -9,9 +9,8 @@ mod contents;
 mod set;
 mod walk;
 
-use anyhow::Result;
+use std::io;
 
-fn main(rt: HostRuntime) -> Result<()> {
-    calls::all(walk::Walk::start(&rt)?)?.write()?;
-    Ok(())
+fn main(rt: HostRuntime) -> io::Result<()> {
+    calls::all(walk::Walk::start(&rt)?)?.write()
 }

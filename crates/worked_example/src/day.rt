@@ -1,11 +1,11 @@
 // The river, and what is done to it.
 use crate::constants::{half_saturations, rates};
 use crate::levels::{write_letters, write_levels};
-use anyhow::Result;
 use kinetics::{Conditions, Temperatures};
 use probe::{Amounts, Frame, Oxygen};
 use record::Record;
 use river::{Letter, River};
+use std::io::Result;
 use stoichiometry::number::{HCO3, HPO4, NH4, NO2, NO3, O2, SS, XALG, XH, XN1, XN2, XS};
 use stoichiometry::{Refusal, Set, number_of};
 
@@ -142,7 +142,6 @@ impl<'a, P: Print> Day<'a, P> {
         let mut work = [0; BYTES];
         let written = record::write_record(river, &mut output, &mut work);
         println!(self.rt; "record {}", number_of(&written))?;
-        self.rt.write_all(&output)?;
-        Ok(())
+        self.rt.write_all(&output)
     }
 }

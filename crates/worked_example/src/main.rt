@@ -7,8 +7,8 @@ mod constants;
 mod day;
 mod levels;
 
-use anyhow::Result;
+use std::io;
 
-fn main(rt: HostRuntime) -> Result<()> {
+fn main(rt: HostRuntime) -> io::Result<()> {
     day::Day::start(&rt)?.loaded()?.hour()?.write()
 }

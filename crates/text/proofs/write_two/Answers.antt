@@ -1,17 +1,28 @@
--- `write_two` meets its contract: n as a value has no mark. No assumptions.
-use Rattle.std.proofs.Common.{w64, ap, ◌∙◌}
-use borrow.Author.Rules.{sfits_of, to_z-of_z_to}
-use lib.IntN.{ℤ}
-use Rattle.text.specs.Decimals.{decimal}
-use Rattle.text.specs.Writes.{put_within}
+-- `write_two` meets its contract: nothing where both columns are not there, otherwise n over them. No assumptions.
+use Rattle.std.proofs.Common.{◌≡◌, ◌+◌, ◌-◌, sym, ◌∙◌, arith}
+use Rattle.text.proofs.WriteLaws.{put_within_lem, put_refused, mid_written}
+use Rattle.text.proofs.DecimalLaws.{plain-length}
 use Rattle.text.proofs.write_two.Goals as goal
+use Rattle.text.proofs.write_two.Goals.{else-at-out-via-then-at-out+else-out-at-ge2, else-at-out-via-else-at-out}
 
-pub returns : goal.returns
-unfolding decimal
-returns c =
+-- `at` is past the end, or only one column is there.
+pub returns-else-at-out : goal.returns-else-at-out
+returns-else-at-out c =
+    let both = plain-length 2 32 c.args.n in
+    elim c.else-at-out.branch [
+      | else-at-out-via-then-at-out+else-out-at-ge2 w ↦
+          record { out = sym (put_refused _ _ 2 _ both (omega (arith, w.if-at-out.true, w.if-out-at-ge2.false))) }
+      | else-at-out-via-else-at-out w ↦
+          record { out = sym (put_refused _ _ 2 _ both (omega (arith, w.if-at-out.false))) }
+    ]
+
+pub returns-then-out-at-ge2 : goal.returns-then-out-at-ge2
+returns-then-out-at-ge2 c =
+    let count : c.args.at + 2 - c.args.at ≡ 2 = omega arith in
+    let both = plain-length 2 32 c.args.n in
     record {
       out =
-          c.write_decimal.ensures.out
-          ∙ ap (λ (z : ℤ). put_within c.args.out.now c.args.at (decimal 2 z))
-          (to_z-of_z_to w64 _ _ (sfits_of c.from.type_inv) c.from.ensures);
+          mid_written c.args.out.now _ _ c.args.at _ 2 both count
+          (c.copy_from_slice.ensures.after ∙ c.two_columns.ensures.columns)
+          ∙ sym (put_within_lem c.args.out.now c.args.at 2 _ both (omega arith));
     }
