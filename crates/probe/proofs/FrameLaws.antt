@@ -1,6 +1,6 @@
 -- Laws of frames: what it says that one fits; an amount is in 64 bits; the answer of a frame by the checks. No assumptions.
 use mathlib.Core.Path.{◌≡◌, refl}
-use mathlib.Core.Bool.{Bool, true, false, ◌&&◌, false≢true}
+use mathlib.Core.Bool.{true, false}
 use Prim.Native.Nat.{ℕ, ◌*◌, ◌≤◌, ◌<◌}
 use native.Mathlib.Nat.{mul-le-mul, le_trans}
 use native.Mathlib.Omega.{arith}
@@ -8,6 +8,7 @@ use lib.Dec.{ltb}
 use lib.Ieee.{Float}
 use Rattle.std.specs.Prelude.{Ok, Err}
 use Rattle.numeric.specs.Check.{first_holding}
+use Rattle.numeric.proofs.CheckLaws.{and_left, and_right}
 use Rattle.stoichiometry.specs.Limits.{most_saturation}
 use Rattle.stoichiometry.specs.declared.refusals.Refusal.TheVariants.{Conditions, Reading}
 use Rattle.probe.specs.declared.Frame.{Frame}
@@ -23,18 +24,19 @@ pub record Fitting (f : Frame) : Type 0 where
   pub phosphate : reading_fits f.phosphate ≡ true
   pub oxygen : oxygen_fits f.oxygen ≡ true
 
-both_parts : (a b : Bool) → (a && b) ≡ true → (a ≡ true) × (b ≡ true)
-both_parts true b h = (refl, h)
-both_parts false b h = absurd (false≢true h)
-
 pub frame_fits_lem : (f : Frame) → frame_fits f ≡ true → Fitting f
 unfolding frame_fits
 frame_fits_lem f h =
-    let four = both_parts (reading_fits f.ammonium && reading_fits f.nitrite && reading_fits f.nitrate && reading_fits f.phosphate) (oxygen_fits f.oxygen) h in
-    let three = both_parts (reading_fits f.ammonium && reading_fits f.nitrite && reading_fits f.nitrate) (reading_fits f.phosphate) four.0 in
-    let two = both_parts (reading_fits f.ammonium && reading_fits f.nitrite) (reading_fits f.nitrate) three.0 in
-    let one = both_parts (reading_fits f.ammonium) (reading_fits f.nitrite) two.0 in
-    record { ammonium = one.0; nitrite = one.1; nitrate = two.1; phosphate = three.1; oxygen = four.1 }
+    let four = and_left _ (oxygen_fits f.oxygen) h in
+    let three = and_left _ (reading_fits f.phosphate) four in
+    let two = and_left _ (reading_fits f.nitrate) three in
+    record {
+      ammonium = and_left (reading_fits f.ammonium) (reading_fits f.nitrite) two;
+      nitrite = and_right (reading_fits f.ammonium) (reading_fits f.nitrite) two;
+      nitrate = and_right _ (reading_fits f.nitrate) three;
+      phosphate = and_right _ (reading_fits f.phosphate) four;
+      oxygen = and_right _ (oxygen_fits f.oxygen) h;
+    }
 
 -- A floor times the grains of a µg is far below 2 ^ 63.
 pub grains_bound : (x : Float) (c d w : ℕ) → reading_fits x ≡ true → 0 < d → c ≤ most_saturation → w ≤ 22320000
