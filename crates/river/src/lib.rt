@@ -1,8 +1,9 @@
 // The river: a train of 1 to 8 cells, by value; a fresh one, check 4, and the letter of a cell.
 #![tactic(auto)]
 
-ghost use Rattle.std.specs.Prelude.{◌≡◌};
-ghost use Rattle.river.specs.Rivers.{river_fits, fresh_answer};
+ghost use Rattle.std.specs.Prelude.{◌≡◌, cond};
+ghost use Rattle.stoichiometry.specs.Refusals.{answer_of};
+ghost use Rattle.river.specs.Rivers.{cells_fit, river_fits, zero_river, fresh_answer};
 ghost use Rattle.river.specs.Checked.{river_of, checked_answer, place_answer};
 ghost use Rattle.river.specs.Cells.{byte, letter_by, letter_answer};
 
@@ -49,16 +50,29 @@ impl River {
     pub const BATCHES_MOST: i64 = 100000;
 
     // A river of n cells, all zeros. Refuses with 4 where n is not 1 to 8.
-    #[tactic(auto, unfolding(crate::specs::Rivers::fresh_answer, crate::specs::Rivers::cells_fit, numeric::specs::Check::first_holding))]
+    #[tactic(auto, unfolding(crate::specs::Rivers::fresh_answer, numeric::specs::Check::first_holding))]
     pub fn fresh(n: u32) -> Result<River, Refusal>
         ensures answer { result ≡ fresh_answer n }
     {
+        let mut river = River {
+            cells: 0,
+            amounts: [0; AMOUNTS],
+            carries: [0; CARRIES],
+        };
+        river.take_cells(n)?;
+        Ok(river)
+    }
+
+    // Makes a river of no cells one of n, all zeros. Refuses with 4 where n is not 1 to 8, and leaves it without cells.
+    #[tactic(auto, unfolding(crate::specs::Rivers::cells_fit))]
+    fn take_cells(&mut self, n: u32) -> Result<(), Refusal>
+        requires { self.old ≡ zero_river 0 }
+        ensures answer { result ≡ answer_of (cond (cells_fit n) 0 4) tt }
+        ensures cells { self.new ≡ zero_river (cond (cells_fit n) n 0) }
+    {
         if in_range(1, River::CELLS_MOST as u32, n) {
-            Ok(River {
-                cells: n,
-                amounts: [0; AMOUNTS],
-                carries: [0; CARRIES],
-            })
+            self.cells = n;
+            Ok(())
         } else {
             Err(Refusal::River)
         }
